@@ -6,7 +6,7 @@ use mathlib.Core.List.{List, [], _∷_, _++_, append-assoc, append-nil}
 use mathlib.Core.Logic.{_⊎_, inl, inr}
 use native.Mathlib.Omega.{arith}
 use lib.Dec.{eqb, leb, ltb}
-use lib.ListN.{length, length-append}
+use lib.ListN.{length, getD, drop, length-append}
 use native.Mathlib.Nat.{pow-le-pow-right}
 use Rattle.std.specs.Reads.{Digits, value}
 use Rattle.std.specs.Text.{digitValue}
@@ -16,7 +16,7 @@ use Rattle.std.specs.declared.option.Option.the-variants.{Some, None}
 use Rattle.std.specs.declared.result.Result.{Result}
 use Rattle.std.specs.declared.result.Result.the-variants.{Ok, Err}
 use Rattle.std.proofs.shelf.Digits.{value-push, value-lt, digits-push}
-use Rattle.std.proofs.shelf.Lists.{length-push}
+use Rattle.std.proofs.shelf.Lists.{length-push, drop-more}
 use Rattle.std.proofs.shelf.Ways.{tells}
 use Rattle.font.specs.declared.refusal.Refusal.{Refusal}
 use Rattle.font.specs.declared.label.LabelRow.{LabelRow}
@@ -24,8 +24,9 @@ use Rattle.font.specs.declared.label_reader.Column.{Column}
 use Rattle.font.specs.declared.label_reader.Column.the-variants.{Character, Glyph, Class, MarkClass, Advance}
 use Rattle.font.specs.declared.label_reader.Reader.{Reader}
 use Rattle.font.specs.LabelFile.{Place, Field, Reads, done, field, fault, start, number, ender, highest, lowest, pastLast, after, filled, One-reading}
-use Rattle.font.specs.LabelReader.{faultAt, hasRoom, grown, isField, behind, moved, grows, ends, stepped, firstRow, stepAnswer}
-use Rattle.font.specs.Told.{Told, gave, refused, told}
+use Rattle.font.specs.LabelFont.{noRow}
+use Rattle.font.specs.LabelReader.{faultAt, hasRoom, grown, isField, behind, moved, grows, ends, stepped, firstRow, stepAnswer, endsAt, finishAnswer}
+use Rattle.font.specs.Told.{Told, gave, refused, told, toldWith}
 
 -- a byte that ends a field is no digit
 ender-no-digit : (c : Column) → digitValue (ender c) < 10 → ⊥
@@ -269,3 +270,43 @@ fault-by above r b rest k false false p q x s ds digits len val =
 
 pub faulty : (above : List LabelRow) (r : Reader) (b : ℕ) (rest : List ℕ) → Knows above r → (x : Refusal) → Err x ≡ stepAnswer r b → ReadsFrom above r (b ∷ rest) (told (Err x))
 faulty above r b rest k x s = fault-by above r b rest k (grows r b) (ends r b) refl refl x s
+
+-- The reader at the start of a file.
+abbrev pub fresh : Reader
+fresh = record { column = Character; count = 0; value = 0; row = noRow; line = 1; lowest = 0 }
+
+pub knows-start : (above : List LabelRow) (r : Reader) → above ≡ [] → r ≡ fresh → Knows above r
+knows-start above r a e = subst (λ u. Knows u r) (sym a) (subst (λ u. Knows [] u) (sym e) (record { line = refl; lowest = refl; few = omega arith }))
+
+pub reads-start : (above : List LabelRow) (r : Reader) (bytes : List ℕ) (t : Told (List LabelRow)) → above ≡ [] → r ≡ fresh → ReadsFrom above r bytes t → Reads start bytes t
+reads-start above r bytes t a e h = subst (λ u. ReadsFrom u fresh bytes t) a (subst (λ u. ReadsFrom above u bytes t) e h) [] tt refl refl
+
+-- the loop's step: rows are those above and what the byte ended
+pub again : (bytes : List ℕ) (i : ℕ) → i < length bytes → (above : List LabelRow) (r : Reader) → ((t : Told (List LabelRow)) → ReadsFrom above r (drop i bytes) t → Reads start bytes t)
+    → (ended : List LabelRow) (r′ : Reader) → Turn above r (getD bytes i 0) ended r′ → (rows : List LabelRow) → rows ≡ above ++ ended
+    → Knows rows r′ × ((t : Told (List LabelRow)) → ReadsFrom rows r′ (drop (i + 1) bytes) t → Reads start bytes t)
+again bytes i h above r left ended r′ turned rows e =
+    ( subst (λ u. Knows u r′) (sym e) (turned .knows)
+    , λ t f. left t (subst (λ u. ReadsFrom above r u t) (sym (drop-more bytes i 0 h)) (turned .reads (drop (i + 1) bytes) t (subst (λ u. ReadsFrom u r′ (drop (i + 1) bytes) t) e f))) )
+
+-- the loop's end
+ends-none : (c : Column) (n : ℕ) → endsAt c n ≡ true → (c ≡ Character) × (n ≡ 0)
+ends-none Character n e = (refl, grind (arith, tells))
+ends-none Glyph n e = let z : _≡_ {A = ℕ} 0 1 = cc in absurd (omega arith)
+ends-none Class n e = let z : _≡_ {A = ℕ} 0 1 = cc in absurd (omega arith)
+ends-none MarkClass n e = let z : _≡_ {A = ℕ} 0 1 = cc in absurd (omega arith)
+ends-none Advance n e = let z : _≡_ {A = ℕ} 0 1 = cc in absurd (omega arith)
+
+ends-some : (c : Column) (n : ℕ) → endsAt c n ≡ false → c ≡ Character → n ≡ 0 → ⊥
+ends-some c n e first none =
+    let f : endsAt Character n ≡ false = subst (λ u. endsAt u n ≡ false) first e in
+    grind (arith, tells)
+
+finish-by : (above : List LabelRow) (r : Reader) → Knows above r → (f : Bool) → endsAt (r .column) (r .count) ≡ f → ReadsFrom above r [] (toldWith above (cond {A = Result Unit Refusal} f (Ok tt) (Err (faultAt r))))
+finish-by above r k true p = reads-end (at above r) (r .count) (r .value) (ends-none (r .column) (r .count) p .1) (ends-none (r .column) (r .count) p .0)
+finish-by above r k false p =
+    subst (λ u. ReadsFrom above r [] (refused 12 (u ∷ number (r .column) ∷ []))) (sym (k .line))
+    (reads-cut (at above r) (r .count) (r .value) (λ none first. ends-some (r .column) (r .count) p first none))
+
+pub finished : (above : List LabelRow) (r : Reader) → Knows above r → ReadsFrom above r [] (toldWith above (finishAnswer r))
+finished above r k = finish-by above r k (endsAt (r .column) (r .count)) refl

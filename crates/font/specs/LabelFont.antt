@@ -1,9 +1,9 @@
 -- What a label font means, by the rows of its file.
-use Prim.Native.Nat.{ℕ}
+use Prim.Native.Nat.{ℕ, _-_}
 use mathlib.Core.Bool.{false, cond}
-use mathlib.Core.List.{List}
+use mathlib.Core.List.{List, _++_}
 use lib.Dec.{eqb}
-use lib.ListN.{take}
+use lib.ListN.{length, take, replicate}
 use Rattle.std.specs.declared.option.Option.{Option}
 use Rattle.std.specs.declared.option.Option.the-variants.{Some, None}
 use Rattle.font.specs.declared.label.LabelRow.{LabelRow}
@@ -15,9 +15,13 @@ use Rattle.font.specs.Search.{firstThat}
 abbrev pub noRow : LabelRow
 noRow = record { character = 0; glyph = 0; class = 0; «mark_class» = 0; advance = 0 }
 
--- The rows that a font holds; its table has zeros past them.
+-- The rows that a font holds.
 abbrev pub rowsOf : LabelFont → List LabelRow
 rowsOf font = take (font .count) (font .rows)
+
+-- The whole table of a font that holds these rows.
+abbrev pub tableOf : List LabelRow → List LabelRow
+tableOf rows = rows ++ replicate (256 - length rows) noRow
 
 abbrev pub orNoRow : Option LabelRow → LabelRow
 orNoRow None = noRow

@@ -1,6 +1,6 @@
 -- What one byte does to the reader of label files.
 use Prim.Native.Nat.{ℕ, _+_, _-_, _*_}
-use mathlib.Core.Bool.{Bool, cond, _&&_}
+use mathlib.Core.Bool.{Bool, false, cond, _&&_}
 use mathlib.Core.List.{List, [], _∷_}
 use lib.Dec.{eqb, leb, ltb}
 use lib.ListN.{length}
@@ -11,6 +11,8 @@ use Rattle.std.specs.declared.result.Result.the-variants.{Ok, Err}
 use Rattle.font.specs.declared.refusal.Refusal.{Refusal}
 use Rattle.font.specs.declared.refusal.Refusal.the-variants.{Label}
 use Rattle.font.specs.declared.label.LabelRow.{LabelRow}
+use Rattle.font.specs.declared.label_reader.Column.{Column}
+use Rattle.font.specs.declared.label_reader.Column.the-variants.{Character, Glyph, Class, MarkClass, Advance}
 use Rattle.font.specs.declared.label_reader.Reader.{Reader}
 use Rattle.font.specs.LabelFile.{Place, number, ender, highest, lowest, pastLast, after}
 
@@ -50,3 +52,14 @@ firstRow (row ∷ rows) = Some row
 
 abbrev pub stepAnswer : Reader → ℕ → Result (Option LabelRow) Refusal
 stepAnswer r b = cond (grows r b) (Ok None) (cond (ends r b) (Ok (firstRow (behind r .above))) (Err (faultAt r)))
+
+-- At the end of the bytes.
+abbrev pub endsAt : Column → ℕ → Bool
+endsAt Character n = eqb n 0
+endsAt Glyph n = false
+endsAt Class n = false
+endsAt MarkClass n = false
+endsAt Advance n = false
+
+abbrev pub finishAnswer : Reader → Result Unit Refusal
+finishAnswer r = cond (endsAt (r .column) (r .count)) (Ok tt) (Err (faultAt r))

@@ -17,3 +17,8 @@ told (Ok x) = gave x
 told (Err RunTooLong) = refused 6 []
 told (Err (Label line field)) = refused 12 (line ∷ field ∷ [])
 told (Err TooManyPairs) = refused 13 []
+
+-- The same, for a call that hands its value over in memory.
+abbrev pub toldWith : {X Y : Type 0} → Y → Result X Refusal → Told Y
+toldWith y (Ok x) = gave y
+toldWith y (Err e) = told (Err e)

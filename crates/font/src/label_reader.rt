@@ -1,9 +1,14 @@
 ghost use mathlib.Core.Path.{_≡_};
-ghost use mathlib.Core.Bool.{cond};
+ghost use mathlib.Core.Bool.{cond, false};
+ghost use mathlib.Core.List.{_++_, _∷_, []};
 ghost use Prim.Native.Nat.{_<_};
+ghost use Rattle.std.specs.Results.{isOk};
 ghost use Rattle.std.specs.declared.result.Result.the-variants.{Ok, Err};
-ghost use Rattle.font.specs.LabelFile.{number};
-ghost use Rattle.font.specs.LabelReader.{faultAt, isField, hasRoom, grown, stepped, stepAnswer};
+ghost use Rattle.font.specs.declared.label_reader.Column.the-variants.{Character};
+ghost use Rattle.font.specs.LabelFile.{Reads, start, number};
+ghost use Rattle.font.specs.LabelFont.{noRow, rowsOf, tableOf};
+ghost use Rattle.font.specs.Told.{toldWith};
+ghost use Rattle.font.specs.LabelReader.{finishAnswer, faultAt, isField, hasRoom, grown, stepped, stepAnswer};
 use crate::label::LabelFont;
 use crate::label::LabelRow;
 use crate::refusal::Refusal;
@@ -47,6 +52,13 @@ struct Reader {
 }
 
 impl Reader {
+    // At the start of a file.
+    fn new() -> Reader
+        ensures { λ r. ⌜ r ≡ record { column = Character; count = 0; value = 0; row = noRow; line = 1; lowest = 0 } ⌝ }
+    {
+        Reader { column: Column::Character, count: 0, value: 0, row: LabelRow::NONE, line: 1, lowest: 0 }
+    }
+
     fn fault(&self) -> Refusal
         ensures { λ r. ⌜ r ≡ faultAt (now (self .entry)) ⌝ }
     {
@@ -121,5 +133,73 @@ impl Reader {
             _ => return Err(self.fault()),
         }
         Ok(None)
+    }
+
+    // Whether the file may end here: behind a whole row, or at its start.
+    fn finish(&self) -> Result<(), Refusal>
+        ensures { λ r. ⌜ r ≡ finishAnswer (now (self .entry)) ⌝ }
+    {
+        match (self.column, self.count) {
+            (Column::Character, 0) => Ok(()),
+            _ => Err(self.fault()),
+        }
+    }
+}
+
+impl LabelFont {
+    // A font with no rows.
+    pub fn new() -> LabelFont
+        ensures rows { λ r. ⌜ rowsOf r ≡ [] ⌝ }
+        ensures table { λ r. ⌜ r .rows ≡ tableOf [] ⌝ }
+    {
+        LabelFont { rows: [LabelRow::NONE; 256], count: 0 }
+    }
+
+    fn clear(&mut self)
+        ensures rows { λ _. ⌜ rowsOf (now (self .exit)) ≡ [] ⌝ }
+        ensures table { λ _. ⌜ now (self .exit) .rows ≡ tableOf [] ⌝ }
+    {
+        self.count = 0;
+        self.rows.fill(LabelRow::NONE);
+    }
+
+    fn push(&mut self, row: LabelRow)
+        requires { ⌜ now self .count < 256 ⌝ }
+        ensures rows { λ _. ⌜ rowsOf (now (self .exit)) ≡ rowsOf (now (self .entry)) ++ row ∷ [] ⌝ }
+        ensures table { λ _. ⌜ (now (self .entry) .rows ≡ tableOf (rowsOf (now (self .entry))) → now (self .exit) .rows ≡ tableOf (rowsOf (now (self .exit)))) ⌝ }
+    {
+        let count = self.count;
+        self.rows[count] = row;
+        self.count = count + 1;
+    }
+
+    // Reads rows into an empty font, up to the first fault.
+    fn fill(&mut self, bytes: &[u8]) -> Result<(), Refusal>
+        requires empty { ⌜ rowsOf (now self) ≡ [] ⌝ }
+        requires clean { ⌜ now self .rows ≡ tableOf [] ⌝ }
+        ensures answer { λ r. ⌜ Reads start (now (bytes .entry)) (toldWith (rowsOf (now (self .exit))) r) ⌝ }
+        ensures table { λ _. ⌜ now (self .exit) .rows ≡ tableOf (rowsOf (now (self .exit))) ⌝ }
+    {
+        let mut reader = Reader::new();
+        for byte in bytes {
+            if let Some(row) = reader.step(*byte)? {
+                self.push(row);
+            }
+        }
+        reader.finish()
+    }
+
+    // Reads a label file in the place of the rows so far. A refusal leaves no row.
+    pub fn read(&mut self, bytes: &[u8]) -> Result<(), Refusal>
+        ensures answer { λ r. ⌜ Reads start (now (bytes .entry)) (toldWith (rowsOf (now (self .exit))) r) ⌝ }
+        ensures table { λ _. ⌜ now (self .exit) .rows ≡ tableOf (rowsOf (now (self .exit))) ⌝ }
+        ensures cleared { λ r. ⌜ (isOk r ≡ false → rowsOf (now (self .exit)) ≡ []) ⌝ }
+    {
+        self.clear();
+        let answer = self.fill(bytes);
+        if answer.is_err() {
+            self.clear();
+        }
+        answer
     }
 }
