@@ -242,8 +242,8 @@ turn-by above r b k false true p q o s =
     subst (λ u. Turn above r b u (moved r (behind r))) (sym (ap listOf n ∙ one-row (r .column) (r .row) (r .value))) (turn-field above r b k q)
 turn-by above r b k false false p q o s = let z : _≡_ {A = ℕ} 0 1 = cc in absurd (omega arith)
 
-pub turn : (above : List LabelRow) (r : Reader) (b : ℕ) → Knows above r → (o : Option LabelRow) → Ok o ≡ stepAnswer r b → Turn above r b (listOf o) (stepped r b)
-turn above r b k o s = turn-by above r b k (grows r b) (ends r b) refl refl o s
+pub turn : (above : List LabelRow) (r : Reader) (b : ℕ) → Knows above r → (o : Option LabelRow) → Ok o ≡ stepAnswer r b → (r′ : Reader) → r′ ≡ stepped r b → Turn above r b (listOf o) r′
+turn above r b k o s r′ e = subst (λ u. Turn above r b (listOf o) u) (sym e) (turn-by above r b k (grows r b) (ends r b) refl refl o s)
 
 -- fewer than seven digits say less than a million
 below-million : (ds : List ℕ) → Digits 10 ds → length ds < 7 → value 10 ds < 1000000

@@ -22,3 +22,8 @@ told (Err TooManyPairs) = refused 13 []
 abbrev pub toldWith : {X Y : Type 0} → Y → Result X Refusal → Told Y
 toldWith y (Ok x) = gave y
 toldWith y (Err e) = told (Err e)
+
+-- A refusal's number; 0 for none.
+abbrev pub numberOf : {X : Type 0} → Told X → ℕ
+numberOf (gave x) = 0
+numberOf (refused number values) = number

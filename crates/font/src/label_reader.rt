@@ -5,7 +5,7 @@ ghost use Prim.Native.Nat.{_<_};
 ghost use Rattle.std.specs.Results.{isOk};
 ghost use Rattle.std.specs.declared.result.Result.the-variants.{Ok, Err};
 ghost use Rattle.font.specs.declared.label_reader.Column.the-variants.{Character};
-ghost use Rattle.font.specs.LabelFile.{Reads, start, number};
+ghost use Rattle.font.specs.LabelFile.{One-reading, Reads, start, number};
 ghost use Rattle.font.specs.LabelFont.{noRow, rowsOf, tableOf};
 ghost use Rattle.font.specs.Told.{toldWith};
 ghost use Rattle.font.specs.LabelReader.{finishAnswer, faultAt, isField, hasRoom, grown, stepped, stepAnswer};
@@ -202,4 +202,10 @@ impl LabelFont {
         }
         answer
     }
+}
+
+// Bytes read as one thing only: the rows of a file or one first fault.
+pub fn one_reading()
+    ensures { λ _. ⌜ One-reading ⌝ }
+{
 }

@@ -33,7 +33,7 @@ returns-in-Break-row c =
 pub push-requires : need.push-requires
 push-requires c κs =
     let above = rowsOf (c .loop-byte .self) in
-    let t = turn above (c .loop-byte .reader) (getD (c .args .bytes .now) (c .loop-byte .byte-index) 0) (c .loop-byte .inv .0) _ (c .in-Continue-row .ensures tt .answer) in
+    let t = turn above (c .loop-byte .reader) (getD (c .args .bytes .now) (c .loop-byte .byte-index) 0) (c .loop-byte .inv .0) _ (c .in-Continue-row .ensures tt .answer) _ (c .in-Continue-row .ensures tt .reader) in
     let n : length above ≡ c .loop-byte .self .count = length-take-le _ (c .loop-byte .self .rows) (search needs) in
     let m : length (above ++ c .in-Some .row ∷ []) ≤ 256 = subst (λ u. length (above ++ listOf u) ≤ 256) (c .in-Some .is) (t .room (omega (arith, c .loop-byte .self .few))) in
     omega (arith, length-push above (c .in-Some .row))
@@ -43,7 +43,7 @@ loop-byte-again c =
     let above = rowsOf (c .loop-byte .self) in
     let b = getD (c .args .bytes .now) (c .loop-byte .byte-index) 0 in
     let o = c .in-Continue-row .field-0 in
-    let t = subst (λ u. Turn above (c .loop-byte .reader) b (listOf o) u) (sym (c .in-Continue-row .ensures tt .reader)) (turn above (c .loop-byte .reader) b (c .loop-byte .inv .0) o (c .in-Continue-row .ensures tt .answer)) in
+    let t = turn above (c .loop-byte .reader) b (c .loop-byte .inv .0) o (c .in-Continue-row .ensures tt .answer) _ (c .in-Continue-row .ensures tt .reader) in
     let a = again (c .args .bytes .now) (c .loop-byte .byte-index) (omega arith) above (c .loop-byte .reader) (c .loop-byte .inv .2) (listOf o) (c .step .last .self) t (rowsOf (c .match-branch-2 .self)) in
     elim (c .match-branch-2 .came)
     [ in-Some w ↦
