@@ -1,7 +1,4 @@
-// Fonts as shaping sees them: what a source answers, and the sources that need no font tables.
-pub mod label;
-pub mod label_font;
-pub mod label_reader;
+// What shaping asks of a font, and layers over any source of the answers.
 pub mod pairs;
 pub mod refusal;
 pub mod search;

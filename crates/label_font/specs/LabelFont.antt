@@ -6,10 +6,10 @@ use lib.Dec.{eqb}
 use lib.ListN.{length, take, replicate}
 use Rattle.std.specs.declared.option.Option.{Option}
 use Rattle.std.specs.declared.option.Option.the-variants.{Some, None}
-use Rattle.font.specs.declared.label.LabelRow.{LabelRow}
-use Rattle.font.specs.declared.label.LabelFont.{LabelFont}
+use Rattle.label_font.specs.declared.table.LabelRow.{LabelRow}
+use Rattle.label_font.specs.declared.table.LabelFont.{LabelFont}
 use Rattle.font.specs.Font.{Font}
 use Rattle.font.specs.Search.{firstThat}
 
 -- A row of zeros: what is not listed has these.
 abbrev pub noRow : LabelRow

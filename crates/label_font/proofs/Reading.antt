@@ -18,15 +18,15 @@ use Rattle.std.specs.declared.result.Result.the-variants.{Ok, Err}
 use Rattle.std.proofs.shelf.Digits.{value-push, value-lt, digits-push}
 use Rattle.std.proofs.shelf.Lists.{length-push, drop-more}
 use Rattle.std.proofs.shelf.Ways.{tells}
 use Rattle.font.specs.declared.refusal.Refusal.{Refusal}
-use Rattle.font.specs.declared.label.LabelRow.{LabelRow}
-use Rattle.font.specs.declared.label_reader.Column.{Column}
-use Rattle.font.specs.declared.label_reader.Column.the-variants.{Character, Glyph, Class, MarkClass, Advance}
-use Rattle.font.specs.declared.label_reader.Reader.{Reader}
-use Rattle.font.specs.LabelFile.{Place, Field, Reads, done, field, fault, start, number, ender, highest, lowest, pastLast, after, filled, One-reading}
-use Rattle.font.specs.LabelFont.{noRow}
-use Rattle.font.specs.LabelReader.{faultAt, hasRoom, grown, isField, behind, moved, grows, ends, stepped, firstRow, stepAnswer, endsAt, finishAnswer}
+use Rattle.label_font.specs.declared.table.LabelRow.{LabelRow}
+use Rattle.label_font.specs.declared.reader.Column.{Column}
+use Rattle.label_font.specs.declared.reader.Column.the-variants.{Character, Glyph, Class, MarkClass, Advance}
+use Rattle.label_font.specs.declared.reader.Reader.{Reader}
+use Rattle.label_font.specs.LabelFile.{Place, Field, Reads, done, field, fault, start, number, ender, highest, lowest, pastLast, after, filled, One-reading}
+use Rattle.label_font.specs.LabelFont.{noRow}
+use Rattle.label_font.specs.LabelReader.{faultAt, hasRoom, grown, isField, behind, moved, grows, ends, stepped, firstRow, stepAnswer, endsAt, finishAnswer}
 use Rattle.font.specs.Told.{Told, gave, refused, told, toldWith}
 
 -- a byte that ends a field is no digit
 ender-no-digit : (c : Column) → digitValue (ender c) < 10 → ⊥

@@ -8,13 +8,13 @@ use Rattle.std.specs.declared.option.Option.{Option}
 use Rattle.std.specs.declared.option.Option.the-variants.{Some, None}
 use Rattle.std.specs.declared.result.Result.{Result}
 use Rattle.std.specs.declared.result.Result.the-variants.{Ok, Err}
 use Rattle.font.specs.declared.refusal.Refusal.{Refusal}
 use Rattle.font.specs.declared.refusal.Refusal.the-variants.{Label}
-use Rattle.font.specs.declared.label.LabelRow.{LabelRow}
-use Rattle.font.specs.declared.label_reader.Column.{Column}
-use Rattle.font.specs.declared.label_reader.Column.the-variants.{Character, Glyph, Class, MarkClass, Advance}
-use Rattle.font.specs.declared.label_reader.Reader.{Reader}
-use Rattle.font.specs.LabelFile.{Place, number, ender, highest, lowest, pastLast, after}
+use Rattle.label_font.specs.declared.table.LabelRow.{LabelRow}
+use Rattle.label_font.specs.declared.reader.Column.{Column}
+use Rattle.label_font.specs.declared.reader.Column.the-variants.{Character, Glyph, Class, MarkClass, Advance}
+use Rattle.label_font.specs.declared.reader.Reader.{Reader}
+use Rattle.label_font.specs.LabelFile.{Place, number, ender, highest, lowest, pastLast, after}
 
 abbrev pub faultAt : Reader → Refusal
 faultAt r = Label (r .line) (number (r .column))

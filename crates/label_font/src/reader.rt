@@ -4,14 +4,14 @@ ghost use mathlib.Core.List.{_++_, _∷_, []};
 ghost use Prim.Native.Nat.{_<_};
 ghost use Rattle.std.specs.Results.{isOk};
 ghost use Rattle.std.specs.declared.result.Result.the-variants.{Ok, Err};
-ghost use Rattle.font.specs.declared.label_reader.Column.the-variants.{Character};
-ghost use Rattle.font.specs.LabelFile.{One-reading, Reads, start, number};
-ghost use Rattle.font.specs.LabelFont.{noRow, rowsOf, tableOf};
+ghost use Rattle.label_font.specs.declared.reader.Column.the-variants.{Character};
+ghost use Rattle.label_font.specs.LabelFile.{One-reading, Reads, start, number};
+ghost use Rattle.label_font.specs.LabelFont.{noRow, rowsOf, tableOf};
 ghost use Rattle.font.specs.Told.{toldWith};
-ghost use Rattle.font.specs.LabelReader.{finishAnswer, faultAt, isField, hasRoom, grown, stepped, stepAnswer};
-use crate::label::LabelFont;
-use crate::label::LabelRow;
-use crate::refusal::Refusal;
+ghost use Rattle.label_font.specs.LabelReader.{finishAnswer, faultAt, isField, hasRoom, grown, stepped, stepAnswer};
+use crate::table::LabelFont;
+use crate::table::LabelRow;
+use font::refusal::Refusal;
 
 // The field of a row that the next byte meets.
 #[derive(Clone, Copy)]

@@ -1,12 +1,12 @@
 ghost use mathlib.Core.Path.{_≡_};
 ghost use lib.Dec.{eqb};
-ghost use Rattle.font.specs.LabelFont.{rowsOf, rowOfCharacter, rowOfGlyph, labelFont, labelAdvance};
-use crate::label::LabelFont;
-use crate::label::LabelRow;
-use crate::search::Test;
-use crate::search::first_that;
-use crate::source::FontSource;
-use crate::source::MeasuredSource;
+ghost use Rattle.label_font.specs.LabelFont.{rowsOf, rowOfCharacter, rowOfGlyph, labelFont, labelAdvance};
+use crate::table::LabelFont;
+use crate::table::LabelRow;
+use font::search::Test;
+use font::search::first_that;
+use font::source::FontSource;
+use font::source::MeasuredSource;
 
 // The rows with a character.
 #[derive(Drop)]

@@ -9,13 +9,13 @@ use Rattle.std.specs.declared.option.Option.the-variants.{Some, None}
 use Rattle.std.specs.declared.result.Result.the-variants.{Ok, Err}
 use Rattle.std.proofs.shelf.Lists.{length-take-le, length-push, drop-more, drop-all}
 use Rattle.std.proofs.shelf.Results.{err-from-errBy}
-use Rattle.font.specs.LabelFile.{Reads, start}
-use Rattle.font.specs.LabelFont.{rowsOf, tableOf}
-use Rattle.font.specs.LabelReader.{stepAnswer, stepped}
+use Rattle.label_font.specs.LabelFile.{Reads, start}
+use Rattle.label_font.specs.LabelFont.{rowsOf, tableOf}
+use Rattle.label_font.specs.LabelReader.{stepAnswer, stepped}
 use Rattle.font.specs.Told.{told, toldWith}
-use Rattle.font.proofs.Reading.{Knows, ReadsFrom, Turn, turn, faulty, again, finished, knows-start, reads-start}
-use Rattle.font.proofs.label.LabelFont.fill.Needs as need
-use Rattle.font.proofs.label.LabelFont.fill.Needs.{in-Some, in-rest}
+use Rattle.label_font.proofs.Reading.{Knows, ReadsFrom, Turn, turn, faulty, again, finished, knows-start, reads-start}
+use Rattle.label_font.proofs.table.LabelFont.fill.Needs as need
+use Rattle.label_font.proofs.table.LabelFont.fill.Needs.{in-Some, in-rest}
 
 pub loop-byte-holds : need.loop-byte-holds
 loop-byte-holds c =

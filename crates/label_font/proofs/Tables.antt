@@ -5,8 +5,8 @@ use mathlib.Core.List.{List, [], _∷_, _++_, append-assoc}
 use native.Mathlib.Omega.{arith}
 use lib.ListN.{length, set, replicate}
 use Rattle.std.proofs.shelf.Lists.{set-at, length-push}
-use Rattle.font.specs.declared.label.LabelRow.{LabelRow}
-use Rattle.font.specs.LabelFont.{noRow, tableOf}
+use Rattle.label_font.specs.declared.table.LabelRow.{LabelRow}
+use Rattle.label_font.specs.LabelFont.{noRow, tableOf}
 
 -- a row takes the place of the first zeros
 pub table-push : (rows : List LabelRow) (row : LabelRow) → length rows < 256 → set (tableOf rows) (length rows) row ≡ tableOf (rows ++ row ∷ [])

@@ -5,11 +5,11 @@ use mathlib.Core.Path.{_≡_}
 use mathlib.Core.List.{List, [], _∷_, _++_}
 use lib.ListN.{length}
 use Rattle.std.specs.Reads.{Digits, value}
-use Rattle.font.specs.declared.label.LabelRow.{LabelRow}
-use Rattle.font.specs.declared.label_reader.Column.{Column}
-use Rattle.font.specs.declared.label_reader.Column.the-variants.{Character, Glyph, Class, MarkClass, Advance}
-use Rattle.font.specs.LabelFont.{noRow}
+use Rattle.label_font.specs.declared.table.LabelRow.{LabelRow}
+use Rattle.label_font.specs.declared.reader.Column.{Column}
+use Rattle.label_font.specs.declared.reader.Column.the-variants.{Character, Glyph, Class, MarkClass, Advance}
+use Rattle.label_font.specs.LabelFont.{noRow}
 use Rattle.font.specs.Told.{Told, gave, refused}
 
 -- A place in a file: the rows above, what is known of this row (the rest is zero), and the field that comes next.
 pub record Place : Type 0 where

@@ -5,9 +5,9 @@ use native.Mathlib.Omega.{arith}
 use lib.ListN.{length, set, take}
 use Prim.Native.Nat.{_+_}
 use Rattle.std.proofs.shelf.Lists.{length-take-le, take-more-set}
-use Rattle.font.specs.LabelFont.{rowsOf, tableOf}
-use Rattle.font.proofs.Tables.{table-push}
-use Rattle.font.proofs.label.LabelFont.push.Needs as need
+use Rattle.label_font.specs.LabelFont.{rowsOf, tableOf}
+use Rattle.label_font.proofs.Tables.{table-push}
+use Rattle.label_font.proofs.table.LabelFont.push.Needs as need
 
 pub returns : need.returns
 returns c =

@@ -1,0 +1,3 @@
+pub mod LabelFile
+pub mod LabelFont
+pub mod LabelReader
