@@ -14,10 +14,12 @@ pub trait Test<T> {
 pub fn first_that<T: Copy, Q: Test<T>>(items: &[T], q: &Q) -> Option<T>
     ensures { λ r. ⌜ r ≡ firstThat (Q·Test .passes (now (q .entry))) (now (items .entry)) ⌝ }
 {
+    let mut found = None;
     for x in items {
         if q.test(x) {
-            return Some(*x);
+            found = Some(*x);
+            break;
         }
     }
-    None
+    found
 }

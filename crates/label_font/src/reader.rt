@@ -16,24 +16,18 @@ use font::refusal::Refusal;
 // The field of a row that the next byte meets.
 #[derive(Clone, Copy)]
 pub enum Column {
-    Character,
-    Glyph,
-    Class,
-    MarkClass,
-    Advance,
+    Character = 1,
+    Glyph = 2,
+    Class = 3,
+    MarkClass = 4,
+    Advance = 5,
 }
 
 impl Column {
     fn number(self) -> u8
         ensures { λ r. ⌜ r ≡ number self ⌝ }
     {
-        match self {
-            Column::Character => 1,
-            Column::Glyph => 2,
-            Column::Class => 3,
-            Column::MarkClass => 4,
-            Column::Advance => 5,
-        }
+        self as u8
     }
 }
 
