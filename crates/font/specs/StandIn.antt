@@ -26,8 +26,9 @@ standInGlyph below pairs c = cond (eqb (below c) 0) (glyphBy below (firstThat (�
 
 -- All other questions pass down.
 abbrev pub standIn : Font → List Pair → Font
-standIn below pairs = record
-  { glyph = standInGlyph (below .glyph) pairs
-  ; class = below .class
-  ; markClass = below .markClass
-  ; inMarkSet = below .inMarkSet }
+standIn below pairs = record {
+  glyph = standInGlyph (below .glyph) pairs;
+  class = below .class;
+  markClass = below .markClass;
+  inMarkSet = below .inMarkSet;
+}

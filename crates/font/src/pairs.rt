@@ -12,8 +12,8 @@ pub struct Pair {
 // At most 32 pairs, in the order in which they were added.
 #[derive(Drop)]
 pub struct PairTable {
-    pub pairs: [Pair; 32],
-    pub count: usize,
+    pub(crate) pairs: [Pair; 32],
+    pub(crate) count: usize,
     ghost few: { count ≤ 32 },
     ghost full: { length pairs ≡ 32 },
 }

@@ -14,12 +14,10 @@ pub trait Test<T> {
 pub fn first_that<T: Copy, Q: Test<T>>(items: &[T], q: &Q) -> Option<T>
     ensures { λ r. ⌜ r ≡ firstThat (Q·Test .passes (now (q .entry))) (now (items .entry)) ⌝ }
 {
-    let mut found = None;
     for x in items {
         if q.test(x) {
-            found = Some(*x);
-            break;
+            return Some(*x);
         }
     }
-    found
+    None
 }

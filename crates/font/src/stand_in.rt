@@ -30,7 +30,20 @@ impl PairTable {
     pub fn new() -> PairTable
         ensures { λ r. ⌜ pairsOf r ≡ [] ⌝ }
     {
-        PairTable { pairs: [Pair { character: 0, stand_in: 0 }; 32], count: 0 }
+        PairTable {
+            pairs: [Pair {
+                character: 0,
+                stand_in: 0,
+            }; 32],
+            count: 0,
+        }
+    }
+
+    // The pairs, in the order in which they were added.
+    pub fn pairs(&self) -> &[Pair]
+        ensures { λ r. ⌜ now r ≡ pairsOf (now (self .entry)) ⌝ }
+    {
+        &self.pairs[0..self.count]
     }
 
     // One pair more; a 33rd is refused and changes nothing.
@@ -63,8 +76,7 @@ pub impl<S: FontSource> FontSource for StandIn<S> as StandInSource {
         if own != 0 {
             return own;
         }
-        let table = &self.table;
-        match first_that(&table.pairs[0..table.count], &ForCharacter(character)) {
+        match first_that(self.table.pairs(), &ForCharacter(character)) {
             Some(pair) => self.below.glyph(pair.stand_in),
             None => 0,
         }

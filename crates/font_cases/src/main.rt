@@ -21,10 +21,21 @@ use std::io::BufRead;
 use std::io::BufReader;
 
 // A layer over a layer is a source like any other.
-pub fn through_two_layers(font: LabelFont, lower: PairTable, upper: PairTable, character: u32) -> u16
+pub fn through_two_layers(
+    font: LabelFont,
+    lower: PairTable,
+    upper: PairTable,
+    character: u32,
+) -> u16
     ensures { λ r. ⌜ r ≡ standIn (standIn (labelFont (rowsOf font)) (pairsOf lower)) (pairsOf upper) .glyph character ⌝ }
 {
-    let layered = StandIn { below: StandIn { below: font, table: lower }, table: upper };
+    let layered = StandIn {
+        below: StandIn {
+            below: font,
+            table: lower,
+        },
+        table: upper,
+    };
     layered.glyph(character)
 }
 
@@ -59,7 +70,10 @@ fn pairs(text: &str) -> Result<PairTable, Refusal> {
         if let Some((a, b)) = word.split_once('=') {
             let character = a.parse::<u32>().unwrap_or(0);
             let stand_in = b.parse::<u32>().unwrap_or(0);
-            table.add(Pair { character, stand_in })?;
+            table.add(Pair {
+                character,
+                stand_in,
+            })?;
         }
     }
     Ok(table)
@@ -73,7 +87,10 @@ fn asked<S: MeasuredSource>(rt: &LibcRuntime, source: &S, characters: &str) -> i
         let mark_class = source.mark_class(glyph);
         let advance = source.advance(glyph);
         let in_set = source.in_mark_set(0, glyph);
-        print!(rt, ", {character}: {glyph} {class} {mark_class} {advance} {in_set}")?;
+        print!(
+            rt,
+            ", {character}: {glyph} {class} {mark_class} {advance} {in_set}"
+        )?;
     }
     println!(rt, "")
 }
@@ -81,7 +98,10 @@ fn asked<S: MeasuredSource>(rt: &LibcRuntime, source: &S, characters: &str) -> i
 fn refused(rt: &LibcRuntime, refusal: Refusal) -> io::Result<()> {
     let number = refusal.number();
     match refusal {
-        Refusal::Label { line, field } => println!(rt, "refused {number} line {line} field {field}"),
+        Refusal::Label { line, field } => println!(
+            rt,
+            "refused {number} line {line} field {field}"
+        ),
         _ => println!(rt, "refused {number}"),
     }
 }
@@ -98,9 +118,13 @@ fn case(rt: &LibcRuntime, line: &str) -> io::Result<()> {
         (Err(refusal), _) => refused(rt, refusal),
         (_, Err(refusal)) => refused(rt, refusal),
         (Ok(()), Ok(table)) => {
-            let count = font.count;
+            let count = font.rows().len();
             print!(rt, "{count} rows")?;
-            asked(rt, &StandIn { below: font, table }, parts.next().unwrap_or(""))
+            asked(
+                rt,
+                &StandIn { below: font, table },
+                parts.next().unwrap_or(""),
+            )
         }
     }
 }

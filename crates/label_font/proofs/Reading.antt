@@ -112,9 +112,9 @@ reads-cut p n v h ds digits len val =
     fault
     (λ e c. h (let l : length ds ≡ 0 = ap length (sym (append-nil ds) ∙ e) in omega arith) c)
     (λ text more w e f.
-      let g = digits-on p ds [] text more w digits e f in
-      let l : 0 ≡ length (g .0) + length (ender (p .next) ∷ more) = ap length (g .2) ∙ length-append (g .0) (ender (p .next) ∷ more) in
-      omega arith)
+    let g = digits-on p ds [] text more w digits e f in
+    let l : 0 ≡ length (g .0) + length (ender (p .next) ∷ more) = ap length (g .2) ∙ length-append (g .0) (ender (p .next) ∷ more) in
+    omega arith)
 
 -- One reading: bytes begin with one field at most.
 same-end : (p : Place) (rest more ds : List ℕ) (zs : List ℕ) → Digits 10 (ds ++ zs) → ender (p .next) ∷ rest ≡ zs ++ ender (p .next) ∷ more → (zs ≡ []) × (rest ≡ more)
@@ -209,10 +209,11 @@ turn-digit above r b k g =
     let high : b ≤ 57 = grind (arith, tells) in
     let few : r .count < 7 = grind (arith, tells) in
     let same = append-nil above in
-    record
-    { knows = record { line = k .line ∙ ap (λ u. length u + 1) (sym same); lowest = k .lowest ∙ ap (pastLast 0) (sym same); few = omega arith }
-    ; reads = λ rest t h. reads-digit (at above r) (r .count) (r .value) b rest t low high (subst (λ u. ReadsFrom u (grown r (b - 48)) rest t) same h)
-    ; room = λ h. subst (λ u. length u ≤ 256) (sym same) h }
+    record {
+      knows = record { line = k .line ∙ ap (λ u. length u + 1) (sym same); lowest = k .lowest ∙ ap (pastLast 0) (sym same); few = omega arith };
+      reads = λ rest t h. reads-digit (at above r) (r .count) (r .value) b rest t low high (subst (λ u. ReadsFrom u (grown r (b - 48)) rest t) same h);
+      room = λ h. subst (λ u. length u ≤ 256) (sym same) h;
+    }
 
 turn-field : (above : List LabelRow) (r : Reader) (b : ℕ) → Knows above r → ends r b ≡ true → Turn above r b (behind r .above) (moved r (behind r))
 turn-field above r b k e =
@@ -222,16 +223,18 @@ turn-field above r b k e =
     let high : r .value ≤ highest (r .column) = grind (arith, tells) in
     let line : r .line ≤ 256 = grind (arith, tells) in
     let room : length above < 256 = omega (arith, k .line) in
-    record
-    { knows = record
-      { line = simp length-append (omega (arith, k .line))
-      ; lowest = ap (λ u. pastLast u (behind r .above)) (k .lowest) ∙ sym (pastLast-push 0 above (behind r .above))
-      ; few = omega arith }
-    ; reads = λ rest t h.
-        subst (λ u. ReadsFrom above r (u ∷ rest) t) (sym is)
-        (reads-field (at above r) (r .count) (r .value) rest t some (k .few) (subst (λ u. lowest (r .column) u ≤ r .value) (k .lowest) low) high room
-          (subst (λ u. ReadsIn u 0 0 rest t) (sym (after-same (r .column) above (r .row) (r .value))) h))
-    ; room = λ h. simp length-append (omega (arith, one-at-most (r .column) (r .row) (r .value))) }
+    record {
+      knows = record {
+        line = simp length-append (omega (arith, k .line));
+        lowest = ap (λ u. pastLast u (behind r .above)) (k .lowest) ∙ sym (pastLast-push 0 above (behind r .above));
+        few = omega arith;
+      };
+      reads = λ rest t h.
+          subst (λ u. ReadsFrom above r (u ∷ rest) t) (sym is)
+          (reads-field (at above r) (r .count) (r .value) rest t some (k .few) (subst (λ u. lowest (r .column) u ≤ r .value) (k .lowest) low) high room
+          (subst (λ u. ReadsIn u 0 0 rest t) (sym (after-same (r .column) above (r .row) (r .value))) h));
+      room = λ h. simp length-append (omega (arith, one-at-most (r .column) (r .row) (r .value)));
+    }
 
 -- an accepted byte
 turn-by : (above : List LabelRow) (r : Reader) (b : ℕ) → Knows above r → (g e : Bool) → grows r b ≡ g → ends r b ≡ e → (o : Option LabelRow)
@@ -259,12 +262,13 @@ fault-by above r b rest k true e p q x s ds digits len val = let z : _≡_ {A = 
 fault-by above r b rest k false true p q x s ds digits len val = let z : _≡_ {A = ℕ} 0 1 = cc in absurd (omega arith)
 fault-by above r b rest k false false p q x s ds digits len val =
     let n : x ≡ faultAt r = cc in
-    let stops : Stops (at above r) (r .count) (r .value) b = record
-      { full = λ low high few. let m = below-million ds digits (omega arith) in let v : r .value < 1000000 = omega arith in grind (arith, tells)
-      ; other = λ is some low high room.
+    let stops : Stops (at above r) (r .count) (r .value) b = record {
+      full = λ low high few. let m = below-million ds digits (omega arith) in let v : r .value < 1000000 = omega arith in grind (arith, tells);
+      other = λ is some low high room.
           let line : r .line ≤ 256 = omega (arith, k .line) in
           let least : lowest (r .column) (r .lowest) ≤ r .value = subst (λ u. lowest (r .column) u ≤ r .value) (sym (k .lowest)) low in
-          grind (arith, tells) } in
+          grind (arith, tells);
+    } in
     subst (λ u. Reads (at above r) (ds ++ b ∷ rest) (told (Err u))) (sym n)
     (subst (λ u. Reads (at above r) (ds ++ b ∷ rest) (refused 12 (u ∷ number (r .column) ∷ []))) (sym (k .line)) (reads-fault (at above r) (r .count) (r .value) b rest stops ds digits len val))
 
@@ -285,9 +289,10 @@ reads-start above r bytes t a e h = subst (λ u. ReadsFrom u fresh bytes t) a (s
 pub again : (bytes : List ℕ) (i : ℕ) → i < length bytes → (above : List LabelRow) (r : Reader) → ((t : Told (List LabelRow)) → ReadsFrom above r (drop i bytes) t → Reads start bytes t)
     → (ended : List LabelRow) (r′ : Reader) → Turn above r (getD bytes i 0) ended r′ → (rows : List LabelRow) → rows ≡ above ++ ended
     → Knows rows r′ × ((t : Told (List LabelRow)) → ReadsFrom rows r′ (drop (i + 1) bytes) t → Reads start bytes t)
-again bytes i h above r left ended r′ turned rows e =
-    ( subst (λ u. Knows u r′) (sym e) (turned .knows)
-    , λ t f. left t (subst (λ u. ReadsFrom above r u t) (sym (drop-more bytes i 0 h)) (turned .reads (drop (i + 1) bytes) t (subst (λ u. ReadsFrom u r′ (drop (i + 1) bytes) t) e f))) )
+again bytes i h above r left ended r′ turned rows e = (
+  subst (λ u. Knows u r′) (sym e) (turned .knows),
+  λ t f. left t (subst (λ u. ReadsFrom above r u t) (sym (drop-more bytes i 0 h)) (turned .reads (drop (i + 1) bytes) t (subst (λ u. ReadsFrom u r′ (drop (i + 1) bytes) t) e f))),
+)
 
 -- the loop's end
 ends-none : (c : Column) (n : ℕ) → endsAt c n ≡ true → (c ≡ Character) × (n ≡ 0)

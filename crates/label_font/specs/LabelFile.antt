@@ -88,7 +88,7 @@ pub data Reads : Place → List ℕ → Told (List LabelRow) → Type 0 where
   field : {p : Place} {bytes text rest : List ℕ} {v : ℕ} {t : Told (List LabelRow)} → bytes ≡ text ++ rest → Field p text v → Reads (filled p v) rest t → Reads p bytes t
   -- neither: the fault is in this line and this field, both counted from 1
   fault : {p : Place} {bytes : List ℕ} → (bytes ≡ [] → p .next ≡ Character → ⊥) → ((text rest : List ℕ) (v : ℕ) → bytes ≡ text ++ rest → Field p text v → ⊥)
-    → Reads p bytes (refused 12 ((length (p .above) + 1) ∷ number (p .next) ∷ []))
+      → Reads p bytes (refused 12 ((length (p .above) + 1) ∷ number (p .next) ∷ []))
 
 -- No bytes read as two things.
 abbrev pub One-reading : Type 0

@@ -36,11 +36,12 @@ rowOfGlyph rows g = orNoRow (firstThat (λ row. eqb (row .glyph) g) rows)
 
 -- A row with character 0 maps no character, so character 0 has glyph 0. There are no mark sets.
 abbrev pub labelFont : List LabelRow → Font
-labelFont rows = record
-  { glyph = λ c. cond (eqb c 0) 0 (rowOfCharacter rows c .glyph)
-  ; class = λ g. rowOfGlyph rows g .class
-  ; markClass = λ g. rowOfGlyph rows g .«mark_class»
-  ; inMarkSet = λ k g. false }
+labelFont rows = record {
+  glyph = λ c. cond (eqb c 0) 0 (rowOfCharacter rows c .glyph);
+  class = λ g. rowOfGlyph rows g .class;
+  markClass = λ g. rowOfGlyph rows g .«mark_class»;
+  inMarkSet = λ k g. false;
+}
 
 abbrev pub labelAdvance : List LabelRow → ℕ → ℕ
 labelAdvance rows g = rowOfGlyph rows g .advance

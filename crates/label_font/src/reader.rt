@@ -50,13 +50,23 @@ impl Reader {
     fn new() -> Reader
         ensures { λ r. ⌜ r ≡ record { column = Character; count = 0; value = 0; row = noRow; line = 1; lowest = 0 } ⌝ }
     {
-        Reader { column: Column::Character, count: 0, value: 0, row: LabelRow::NONE, line: 1, lowest: 0 }
+        Reader {
+            column: Column::Character,
+            count: 0,
+            value: 0,
+            row: LabelRow::NONE,
+            line: 1,
+            lowest: 0,
+        }
     }
 
     fn fault(&self) -> Refusal
         ensures { λ r. ⌜ r ≡ faultAt (now (self .entry)) ⌝ }
     {
-        Refusal::Label { line: self.line, field: self.column.number() }
+        Refusal::Label {
+            line: self.line,
+            field: self.column.number(),
+        }
     }
 
     // What this field says, if it ends here and may say any number from `lowest` to `highest`.
@@ -146,7 +156,10 @@ impl LabelFont {
         ensures rows { λ r. ⌜ rowsOf r ≡ [] ⌝ }
         ensures table { λ r. ⌜ r .rows ≡ tableOf [] ⌝ }
     {
-        LabelFont { rows: [LabelRow::NONE; 256], count: 0 }
+        LabelFont {
+            rows: [LabelRow::NONE; 256],
+            count: 0,
+        }
     }
 
     fn clear(&mut self)
@@ -201,5 +214,4 @@ impl LabelFont {
 // Bytes read as one thing only: the rows of a file or one first fault.
 pub fn one_reading()
     ensures { λ _. ⌜ One-reading ⌝ }
-{
-}
+{}

@@ -34,14 +34,27 @@ impl Test<LabelRow> for WithGlyph as IsOfGlyph {
 
 impl LabelRow {
     // What is not listed has these values.
-    pub const NONE: LabelRow = LabelRow { character: 0, glyph: 0, class: 0, mark_class: 0, advance: 0 };
+    pub const NONE: LabelRow = LabelRow {
+        character: 0,
+        glyph: 0,
+        class: 0,
+        mark_class: 0,
+        advance: 0,
+    };
 }
 
 impl LabelFont {
+    // The rows of the file, in order.
+    pub fn rows(&self) -> &[LabelRow]
+        ensures { λ r. ⌜ now r ≡ rowsOf (now (self .entry)) ⌝ }
+    {
+        &self.rows[0..self.count]
+    }
+
     fn row_of_character(&self, character: u32) -> LabelRow
         ensures { λ r. ⌜ r ≡ rowOfCharacter (rowsOf (now (self .entry))) character ⌝ }
     {
-        match first_that(&self.rows[0..self.count], &WithCharacter(character)) {
+        match first_that(self.rows(), &WithCharacter(character)) {
             Some(row) => row,
             None => LabelRow::NONE,
         }
@@ -50,7 +63,7 @@ impl LabelFont {
     fn row_of_glyph(&self, glyph: u16) -> LabelRow
         ensures { λ r. ⌜ r ≡ rowOfGlyph (rowsOf (now (self .entry))) glyph ⌝ }
     {
-        match first_that(&self.rows[0..self.count], &WithGlyph(glyph)) {
+        match first_that(self.rows(), &WithGlyph(glyph)) {
             Some(row) => row,
             None => LabelRow::NONE,
         }
@@ -61,7 +74,11 @@ pub impl FontSource for LabelFont as LabelFontSource {
     ghost means = { λ font. labelFont (rowsOf font) };
 
     fn glyph(&self, character: u32) -> u16 {
-        if character == 0 { 0 } else { self.row_of_character(character).glyph }
+        if character == 0 {
+            0
+        } else {
+            self.row_of_character(character).glyph
+        }
     }
 
     fn class(&self, glyph: u16) -> u8 {

@@ -15,8 +15,8 @@ pub struct LabelRow {
 // A font of at most 256 rows, read from a label file.
 #[derive(Drop)]
 pub struct LabelFont {
-    pub rows: [LabelRow; 256],
-    pub count: usize,
+    pub(crate) rows: [LabelRow; 256],
+    pub(crate) count: usize,
     ghost few: { count ≤ 256 },
     ghost full: { length rows ≡ 256 },
 }

@@ -53,12 +53,18 @@ fn field_meaning(field: u8) -> &'static str {
 pub impl fmt::Display for Failure as FailureDisplay {
     fn fmt<W: fmt::Write>(&self, f: &mut fmt::Formatter<W>) -> fmt::Result {
         match self {
-            Failure::Refused(Refusal::RunTooLong) => write!(f, "refused 6: more than 65535 characters"),
+            Failure::Refused(Refusal::RunTooLong) => write!(
+                f,
+                "refused 6: more than 65535 characters"
+            ),
             Failure::Refused(Refusal::Label { line, field }) => {
                 let meaning = field_meaning(*field);
                 write!(f, "refused 12 line {line} field {field}: {meaning}")
             }
-            Failure::Refused(Refusal::TooManyPairs) => write!(f, "refused 13: more than 32 stand-in pairs"),
+            Failure::Refused(Refusal::TooManyPairs) => write!(
+                f,
+                "refused 13: more than 32 stand-in pairs"
+            ),
             Failure::Sentence(sentence) => {
                 let sentence = sentence.as_str();
                 write!(f, "mitqorad: {sentence}")

@@ -11,7 +11,11 @@ use std::alloc::AllocError;
 use std::alloc::Global;
 
 // The glyph of each character.
-pub fn glyphs_of<S: FontSource>(heap: Global, source: &S, text: &[u32]) -> Result<Vec<u16>, AllocError>
+pub fn glyphs_of<S: FontSource>(
+    heap: Global,
+    source: &S,
+    text: &[u32],
+) -> Result<Vec<u16>, AllocError>
     ensures { λ r. ⌜ made r (λ glyphs. vec-items glyphs ≡ map (S·FontSource .means (now (source .entry)) .glyph) (now (text .entry))) ⌝ }
 {
     let mut glyphs = Vec::new(heap);

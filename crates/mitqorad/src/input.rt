@@ -4,16 +4,25 @@ use crate::failure::FailureFromFull;
 use crate::failure::FailureFromRefusal;
 use font::pairs::Pair;
 use font::pairs::PairTable;
+use std::alloc::AllocError;
 use std::alloc::Global;
 use std::fs;
 use std::io;
 use std::io::Read;
 
+// A path as a message has it.
+fn shown(path: &str) -> &str {
+    if path == "-" { "standard input" } else { path }
+}
+
 // All bytes of a file, or of standard input for `-`.
 pub fn bytes_of(rt: &LibcRuntime, path: &str) -> Result<Vec<u8>, Failure> {
     match read(rt, path) {
         Ok(bytes) => Ok(bytes),
-        Err(error) => Err(Failure::Sentence(format!(rt.alloc(), "cannot read {path}: {error}")?)),
+        Err(error) => {
+            let path = shown(path);
+            Err(Failure::Sentence(format!(rt.alloc(), "cannot read {path}: {error}")?))
+        }
     }
 }
 
@@ -30,8 +39,17 @@ fn read(rt: &LibcRuntime, path: &str) -> io::Result<Vec<u8>> {
 pub fn text_of<'a>(heap: Global, path: &str, bytes: &'a [u8]) -> Result<&'a str, Failure> {
     match std::str::from_utf8(bytes) {
         Ok(text) => Ok(text.strip_suffix('\n').unwrap_or(text)),
-        Err(_) => Err(Failure::Sentence(format!(heap, "{path} is not UTF-8")?)),
+        Err(_) => {
+            let path = shown(path);
+            Err(Failure::Sentence(format!(heap, "{path} is not UTF-8")?))
+        }
     }
+}
+
+// A line that is not what it should be.
+fn bad_line(heap: Global, path: &str, line: usize, should_be: &str) -> Result<Failure, AllocError> {
+    let path = shown(path);
+    Ok(Failure::Sentence(format!(heap, "line {line} of {path} is not {should_be}")?))
 }
 
 // The number that a line writes: decimal digits and nothing else.
@@ -55,11 +73,10 @@ pub fn characters(heap: Global, text: &str) -> Result<Vec<u32>, Failure> {
 pub fn numbered(heap: Global, path: &str, text: &str) -> Result<Vec<u32>, Failure> {
     let mut all = Vec::new(heap);
     for line in text.lines() {
-        let Some(c) = number_of(line) else {
-            let sentence = format!(heap, "{path} has a line that is not a character's number: {line}")?;
-            return Err(Failure::Sentence(sentence));
+        let Some(character) = number_of(line) else {
+            return Err(bad_line(heap, path, all.len() + 1, "a character's number")?);
         };
-        all.push(c)?;
+        all.push(character)?;
     }
     Ok(all)
 }
@@ -67,7 +84,10 @@ pub fn numbered(heap: Global, path: &str, text: &str) -> Result<Vec<u32>, Failur
 // A line of a stand-in file: two character numbers, parted by a tab.
 fn pair_of(line: &str) -> Option<Pair> {
     let (character, stand_in) = line.split_once('\t')?;
-    Some(Pair { character: number_of(character)?, stand_in: number_of(stand_in)? })
+    Some(Pair {
+        character: number_of(character)?,
+        stand_in: number_of(stand_in)?,
+    })
 }
 
 // Stand-in pairs, one a line.
@@ -75,8 +95,14 @@ pub fn pairs_of(heap: Global, path: &str, text: &str) -> Result<PairTable, Failu
     let mut table = PairTable::new();
     for line in text.lines() {
         let Some(pair) = pair_of(line) else {
-            let sentence = format!(heap, "{path} has a line that is not two characters' numbers, parted by a tab: {line}")?;
-            return Err(Failure::Sentence(sentence));
+            return Err(
+                bad_line(
+                    heap,
+                    path,
+                    table.pairs().len() + 1,
+                    "two characters' numbers, parted by a tab",
+                )?,
+            );
         };
         table.add(pair)?;
     }

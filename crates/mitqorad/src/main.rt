@@ -52,10 +52,18 @@ fn stand_ins(rt: &LibcRuntime, path: Option<&str>) -> Result<PairTable, Failure>
 fn text_characters(rt: &LibcRuntime, path: &str, codes: bool) -> Result<Vec<u32>, Failure> {
     let bytes = input::bytes_of(rt, path)?;
     let text = input::text_of(rt.alloc(), path, bytes.as_slice())?;
-    if codes { input::numbered(rt.alloc(), path, text) } else { input::characters(rt.alloc(), text) }
+    if codes {
+        input::numbered(rt.alloc(), path, text)
+    } else {
+        input::characters(rt.alloc(), text)
+    }
 }
 
-fn print_glyphs<S: MeasuredSource>(rt: &LibcRuntime, source: &S, text: &[u32]) -> Result<(), Failure> {
+fn print_glyphs<S: MeasuredSource>(
+    rt: &LibcRuntime,
+    source: &S,
+    text: &[u32],
+) -> Result<(), Failure> {
     let glyphs = glyphs::glyphs_of(rt.alloc(), source, text)?;
     let width = run_width(source, glyphs.as_slice())?;
     let line = glyphs::numbers_line(rt.alloc(), "glyphs:", glyphs.as_slice())?;
@@ -73,15 +81,26 @@ fn glyphs_command(rt: &LibcRuntime, asked: GlyphsOptions) -> Result<(), Failure>
     print_glyphs(rt, &StandIn { below: font, table }, text.as_slice())
 }
 
+fn asks_help(words: &[String]) -> bool {
+    for word in words {
+        if matches!(word.as_str(), "--help" | "-h") {
+            return true;
+        }
+    }
+    false
+}
+
 fn run(rt: &LibcRuntime) -> Result<(), Failure> {
     let heap = rt.alloc();
     let mut words = Vec::new(heap);
     for word in env::args(rt)?.skip(1) {
         words.push(word)?;
     }
+    if asks_help(words.as_slice()) {
+        return Ok(rt.print(HELP)?);
+    }
     match words.as_slice() {
         [command, rest @ ..] => match command.as_str() {
-            "--help" | "-h" | "help" => Ok(rt.print(HELP)?),
             "--version" | "-V" => Ok(println!(rt, "mitqorad 0.1.0")?),
             "glyphs" => glyphs_command(rt, options::glyphs_options(heap, rest)?),
             other => options::sentence(heap, "unknown command ", other),

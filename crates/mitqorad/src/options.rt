@@ -23,6 +23,16 @@ pub fn sentence<T>(heap: Global, what: &str, word: &str) -> Result<T, Failure> {
     Err(Failure::Sentence(format!(heap, "{what}{word} (mitqorad --help says more)")?))
 }
 
+fn is_stdin(path: Option<&str>) -> bool {
+    path == Some("-")
+}
+
+// Standard input can serve as one file only.
+fn wants_stdin_twice(a: Option<&str>, b: Option<&str>, c: Option<&str>) -> bool {
+    let (a, b, c) = (is_stdin(a), is_stdin(b), is_stdin(c));
+    a && b || a && c || b && c
+}
+
 pub fn glyphs_options<'a>(heap: Global, words: &'a [String]) -> Result<GlyphsOptions<'a>, Failure> {
     let mut label = None;
     let mut stand_in = None;
@@ -55,7 +65,10 @@ pub fn glyphs_options<'a>(heap: Global, words: &'a [String]) -> Result<GlyphsOpt
         }
     }
     if awaited.is_some() {
-        return sentence(heap, "the last option lacks its file", "");
+        return sentence(heap, "the last option has no file", "");
+    }
+    if wants_stdin_twice(label, stand_in, text) {
+        return sentence(heap, "standard input can be one file only", "");
     }
     let Some(label) = label else {
         return sentence(heap, "glyphs needs --label FILE", "");
@@ -63,5 +76,10 @@ pub fn glyphs_options<'a>(heap: Global, words: &'a [String]) -> Result<GlyphsOpt
     let Some(text) = text else {
         return sentence(heap, "glyphs needs a text", "");
     };
-    Ok(GlyphsOptions { label, stand_in, codes, text })
+    Ok(GlyphsOptions {
+        label,
+        stand_in,
+        codes,
+        text,
+    })
 }

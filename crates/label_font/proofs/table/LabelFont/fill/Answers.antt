@@ -18,10 +18,11 @@ use Rattle.label_font.proofs.table.LabelFont.fill.Needs as need
 use Rattle.label_font.proofs.table.LabelFont.fill.Needs.{in-Some, in-rest}
 
 pub loop-byte-holds : need.loop-byte-holds
-loop-byte-holds c =
-    ( knows-start _ _ (c .pre .empty) (c .new-reader .ensures)
-    , c .pre .clean ∙ ap tableOf (sym (c .pre .empty))
-    , λ t h. reads-start _ _ _ t (c .pre .empty) (c .new-reader .ensures) h )
+loop-byte-holds c = (
+  knows-start _ _ (c .pre .empty) (c .new-reader .ensures),
+  c .pre .clean ∙ ap tableOf (sym (c .pre .empty)),
+  λ t h. reads-start _ _ _ t (c .pre .empty) (c .new-reader .ensures) h,
+)
 
 pub returns-in-Break-row : need.returns-in-Break-row
 returns-in-Break-row c =
@@ -45,19 +46,21 @@ loop-byte-again c =
     let o = c .in-Continue-row .field-0 in
     let t = turn above (c .loop-byte .reader) b (c .loop-byte .inv .0) o (c .in-Continue-row .ensures tt .answer) _ (c .in-Continue-row .ensures tt .reader) in
     let a = again (c .args .bytes .now) (c .loop-byte .byte-index) (omega arith) above (c .loop-byte .reader) (c .loop-byte .inv .2) (listOf o) (c .step .last .self) t (rowsOf (c .match-branch-2 .self)) in
-    elim (c .match-branch-2 .came)
-    [ in-Some w ↦
-        let k = a (ap rowsOf (w .self-is) ∙ w .push .ensures .rows ∙ ap (λ u. above ++ listOf u) (sym (w .in-Some .is))) in
-        (k .0, ap (λ u. u .rows) (w .self-is) ∙ w .push .ensures .table (c .loop-byte .inv .1) ∙ ap (λ u. tableOf (rowsOf u)) (sym (w .self-is)), k .1)
-    | in-rest w ↦
-        let k = a (ap rowsOf (w .self-is) ∙ sym (append-nil above) ∙ ap (λ u. above ++ listOf u) (sym (w .in-rest .is))) in
-        (k .0, ap (λ u. u .rows) (w .self-is) ∙ c .loop-byte .inv .1 ∙ ap (λ u. tableOf (rowsOf u)) (sym (w .self-is)), k .1) ]
+    elim (c .match-branch-2 .came) [
+      | in-Some w ↦
+          let k = a (ap rowsOf (w .self-is) ∙ w .push .ensures .rows ∙ ap (λ u. above ++ listOf u) (sym (w .in-Some .is))) in
+          (k .0, ap (λ u. u .rows) (w .self-is) ∙ w .push .ensures .table (c .loop-byte .inv .1) ∙ ap (λ u. tableOf (rowsOf u)) (sym (w .self-is)), k .1)
+      | in-rest w ↦
+          let k = a (ap rowsOf (w .self-is) ∙ sym (append-nil above) ∙ ap (λ u. above ++ listOf u) (sym (w .in-rest .is))) in
+          (k .0, ap (λ u. u .rows) (w .self-is) ∙ c .loop-byte .inv .1 ∙ ap (λ u. tableOf (rowsOf u)) (sym (w .self-is)), k .1)
+    ]
 
 pub returns : need.returns
 returns c =
     let above = rowsOf (c .loop-byte .self) in
     let d = drop-all (c .loop-byte .byte-index) (c .args .bytes .now) (omega arith) in
     let f = finished above (c .loop-byte .reader) (c .loop-byte .inv .0) in
-    record
-    { answer = c .loop-byte .inv .2 _ (subst (λ u. ReadsFrom above (c .loop-byte .reader) u (toldWith above (c .finish .result))) (sym d) (subst (λ u. ReadsFrom above (c .loop-byte .reader) [] (toldWith above u)) (sym (c .finish .ensures)) f))
-    ; table = c .loop-byte .inv .1 }
+    record {
+      answer = c .loop-byte .inv .2 _ (subst (λ u. ReadsFrom above (c .loop-byte .reader) u (toldWith above (c .finish .result))) (sym d) (subst (λ u. ReadsFrom above (c .loop-byte .reader) [] (toldWith above u)) (sym (c .finish .ensures)) f));
+      table = c .loop-byte .inv .1;
+    }

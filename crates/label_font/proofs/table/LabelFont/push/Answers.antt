@@ -14,8 +14,9 @@ returns c =
     let font = c .args .self .now in
     let n : length (rowsOf font) ≡ font .count = length-take-le _ (font .rows) (search needs) in
     let s : take (font .count + 1) (set (font .rows) (font .count) (c .args .row)) ≡ rowsOf font ++ c .args .row ∷ [] = take-more-set (font .rows) (font .count) (c .args .row) (search needs) in
-    record
-    { rows = s
-    ; table = λ clean.
-        ap (λ rows. set rows (font .count) (c .args .row)) clean ∙ ap (λ k. set (tableOf (rowsOf font)) k (c .args .row)) (sym n)
-        ∙ table-push (rowsOf font) (c .args .row) (omega (arith, c .pre)) ∙ ap tableOf (sym s) }
+    record {
+      rows = s;
+      table = λ clean.
+          ap (λ rows. set rows (font .count) (c .args .row)) clean ∙ ap (λ k. set (tableOf (rowsOf font)) k (c .args .row)) (sym n)
+          ∙ table-push (rowsOf font) (c .args .row) (omega (arith, c .pre)) ∙ ap tableOf (sym s);
+    }
