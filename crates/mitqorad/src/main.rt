@@ -1,6 +1,5 @@
 // Characters to glyphs, from the command line.
 mod failure;
-mod glyphs;
 mod input;
 mod options;
 
@@ -64,9 +63,9 @@ fn print_glyphs<S: MeasuredSource>(
     source: &S,
     text: &[u32],
 ) -> Result<(), Failure> {
-    let glyphs = glyphs::glyphs_of(rt.alloc(), source, text)?;
+    let glyphs = report::glyphs_of(rt.alloc(), source, text)?;
     let width = run_width(source, glyphs.as_slice())?;
-    let line = glyphs::numbers_line(rt.alloc(), "glyphs:", glyphs.as_slice())?;
+    let line = report::numbers_line(rt.alloc(), "glyphs:", glyphs.as_slice())?;
     rt.println(line)?;
     println!(rt, "width: {width}")?;
     Ok(())
@@ -83,8 +82,9 @@ fn glyphs_command(rt: &LibcRuntime, asked: GlyphsOptions) -> Result<(), Failure>
 
 fn asks_help(words: &[String]) -> bool {
     for word in words {
-        if matches!(word.as_str(), "--help" | "-h") {
-            return true;
+        match word.as_str() {
+            "--help" | "-h" => return true,
+            _ => {}
         }
     }
     false

@@ -24,7 +24,10 @@ pub fn sentence<T>(heap: Global, what: &str, word: &str) -> Result<T, Failure> {
 }
 
 fn is_stdin(path: Option<&str>) -> bool {
-    path == Some("-")
+    match path {
+        Some(path) => path == "-",
+        None => false,
+    }
 }
 
 // Standard input can serve as one file only.

@@ -3,7 +3,7 @@ use Prim.Native.Nat.{_<_}
 use native.Mathlib.Omega.{arith}
 use lib.ListN.{length, take}
 use Rattle.std.proofs.shelf.Lists.{map-more, take-all}
-use Rattle.mitqorad.proofs.glyphs.glyphs_of.Needs as need
+use Rattle.report.proofs.glyphs_of.Needs as need
 
 pub loop-character-again : need.loop-character-again
 loop-character-again g c =

@@ -1,3 +1,4 @@
+// What the program says of a text: its glyphs, and the lines that list them.
 ghost use mathlib.Core.Path.{_≡_};
 ghost use mathlib.Core.List.{map, _++_};
 ghost use lib.Chars.{codes};

@@ -6,7 +6,7 @@ use lib.Chars.{codes}
 use lib.ListN.{length, take, getD}
 use Rattle.std.specs.Written.{decimal}
 use Rattle.std.proofs.shelf.Lists.{take-more, take-all, joined-more}
-use Rattle.mitqorad.proofs.glyphs.numbers_line.Needs as need
+use Rattle.report.proofs.numbers_line.Needs as need
 
 pub loop-n-again : need.loop-n-again
 loop-n-again c =
