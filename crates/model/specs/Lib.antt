@@ -1,0 +1,4 @@
+pub mod Lookups
+pub mod Edits
+pub mod Shaping
+pub mod Examples
