@@ -1,1 +1,9 @@
 mod Examples
+mod Seek
+mod Choose
+mod Shift
+mod Change
+mod Frames
+mod Chain
+mod Keeps
+mod Embed
