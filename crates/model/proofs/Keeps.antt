@@ -3,6 +3,7 @@ use mathlib.Core.Path.{_≡_, subst, sym}
 use mathlib.Core.Bool.{_&&_, false}
 use mathlib.Core.List.{List, [], _∷_, map, reverse}
 use Prim.Native.Nat.{_<_, _≤_, suc, zero-le, ℕ}
+use native.Mathlib.Omega.{arith}
 use lib.Dec.{leb}
 use lib.ListN.{drop, length, take}
 use Rattle.std.specs.shelf.Lists.{All}
@@ -14,8 +15,8 @@ use Rattle.model.specs.Edits.{atCluster, changed, merged, without}
 use Rattle.model.specs.Shaping.{Attempt, Inputs, State, barred, hit, miss}
 use Rattle.model.proofs.Seek.{Clusters}
 use Rattle.model.proofs.Change.{all-reverse}
-use Rattle.model.proofs.Frames.{Valid, valid-weaker}
-use Rattle.model.proofs.Chain.{Chain, Comes, GoodMatch, Makes, Strike, chain-keeps, choose-good, more}
+use Rattle.model.proofs.Frames.{Valid, valid-from, valid-weaker}
+use Rattle.model.proofs.Chain.{Chain, Comes, GoodMatch, Makes, Strike, chain-keeps, choose-good, inside-from, more}
 
 pub without-in : (P : Glyph → Type 0) (ms : List Met) (gs : List Glyph) → All P gs → All P (without ms gs)
 without-in P [] gs k = k
@@ -68,6 +69,11 @@ Kept n s miss = Unit {0}
 Kept n s (barred k) = Unit {0}
 Kept n s (hit s′ e es) = Clusters (λ c. c < n) (s′ .run) × Valid 0 es (length (s .run)) (length (s′ .run)) × (e ≤ length (s′ .run))
 
+abbrev pub From : ℕ → Attempt → Type 0
+From p miss = Unit {0}
+From p (barred k) = Unit {0}
+From p (hit s e es) = p ≤ length (s .run)
+
 module _ (inputs : Inputs) where
   -- a cluster that is free after was free before
   pub chain-free : (c : ℕ) {s s′ : State} → Chain inputs s s′ → s′ .tied c ≡ false → s .tied c ≡ false
@@ -89,3 +95,11 @@ module _ (inputs : Inputs) where
   makes-kept n p s (barred x) h k = tt
   makes-kept n p s (hit s′ e es) h (s₁, k, c, v, i) =
       (chain-keeps inputs (λ u. Clusters (λ c. c < n) (u .run)) (λ p u u′. strike-in (λ c. c < n) inputs p u u′) (more k c) h, valid-weaker 0 p es _ _ zero-le v, i)
+
+  -- a hit at position p leaves at least p glyphs
+  pub makes-from : (p : ℕ) (s : State) (o : Attempt) → Makes inputs p s o → From p o
+  makes-from p s miss h = tt
+  makes-from p s (barred n) h = tt
+  makes-from p s (hit s′ e es) (s₁, k, c, v, i) =
+      let in′ : p < length (s .run) = inside-from (s .run) p (k .first) (k .after) (k .rest) in
+      valid-from p es (length (s .run)) (length (s′ .run)) (omega arith) v

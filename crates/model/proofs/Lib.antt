@@ -7,3 +7,6 @@ mod Frames
 mod Chain
 mod Keeps
 mod Embed
+mod Steps
+mod Passes
+mod Cut
