@@ -48,7 +48,7 @@ module _ (Q : ℕ → Type 0) where
       (matched-good c own before after (seek skips (c .pattern .input ++ c .pattern .lookahead) after) (seek skips (c .pattern .backtrack) before) h (seek-good Q skips (c .pattern .input ++ c .pattern .lookahead) after g) (seek-good Q skips (c .pattern .backtrack) before k))
       (choose-good skips cs before own after h k g)
 
-clusters-any : (gs : List Glyph) → Clusters (λ c. Unit {0}) gs
+pub clusters-any : (gs : List Glyph) → Clusters (λ c. Unit {0}) gs
 clusters-any [] = tt
 clusters-any (g ∷ gs) = (tt, clusters-any gs)
 

@@ -88,7 +88,7 @@ module _ (b m : ℕ) where
         let left = pass-in 0 b b (r .hits) [] (map (raise b) (r .run)) (λ c. cond (ltb c (b + m)) (r .tied (c - b)) false) tt (above-left b (r .run)) inputs x p c 0 l refl (left-is l r) zero-le hl in
         let l′ = left .0 in
         let right = pass-in b m b (l′ .hits) (l′ .run) [] (λ c. cond (ltb c b) (l′ .tied c) false) (below-right b (l′ .run) (left .3)) tt inputs x (left .2) c 0 r (omega arith) (sym (left-is l′ r) ∙ right-is l′ (left .3) r) zero-le hr in
-        let end : accepted w ≡ accepted (RightIn l′ (left .3) (right .0)) = pass-end x (right .2) (simp (length-append, length-map) (omega arith)) in
+        let end : accepted w ≡ accepted (RightIn l′ (left .3) (right .0)) = pass-end x {i = length (l′ .run) + length (right .0 .run)} {s = RightIn l′ (left .3) (right .0)} (right .2) (simp (length-append, length-map) (omega arith)) in
         let is : w ≡ RightIn l′ (left .3) (right .0) = cc in
         (l′, right .0, left .1, right .1, is ∙ sym (right-is l′ (left .3) (right .0)), left .3, right .3)
 
@@ -135,6 +135,10 @@ module _ (b m : ℕ) where
 pub laid-in : (font : Font) (k n : ℕ) (t : List ℕ) → k + length t ≤ n → Clusters (λ p. p < n) (laid font k t)
 laid-in font k n [] h = tt
 laid-in font k n (g ∷ t) h = (omega arith, laid-in font (suc k) n t (omega arith))
+
+pub length-laid : (font : Font) (k : ℕ) (t : List ℕ) → length (laid font k t) ≡ length t
+length-laid font k [] = refl
+length-laid font k (g ∷ t) = ap suc (length-laid font (suc k) t)
 
 laid-raise : (font : Font) (k j : ℕ) (t : List ℕ) → laid font (k + j) t ≡ map (raise k) (laid font j t)
 laid-raise font k j [] = refl

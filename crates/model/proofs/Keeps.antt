@@ -2,6 +2,7 @@
 use mathlib.Core.Path.{_≡_, subst, sym}
 use mathlib.Core.Bool.{_&&_, false}
 use mathlib.Core.List.{List, [], _∷_, map, reverse}
+use mathlib.Core.Option.{some}
 use Prim.Native.Nat.{_<_, _≤_, suc, zero-le, ℕ}
 use native.Mathlib.Omega.{arith}
 use lib.Dec.{leb}
@@ -16,7 +17,7 @@ use Rattle.model.specs.Shaping.{Attempt, Inputs, State, barred, hit, miss}
 use Rattle.model.proofs.Seek.{Clusters}
 use Rattle.model.proofs.Change.{all-reverse}
 use Rattle.model.proofs.Frames.{Valid, valid-from, valid-weaker}
-use Rattle.model.proofs.Chain.{Chain, Comes, GoodMatch, Makes, Strike, chain-keeps, choose-good, inside-from, more}
+use Rattle.model.proofs.Chain.{Chain, Comes, GoodMatch, Makes, Strike, chain-keeps, choose-good, clusters-any, inside-from, more}
 
 pub without-in : (P : Glyph → Type 0) (ms : List Met) (gs : List Glyph) → All P gs → All P (without ms gs)
 without-in P [] gs k = k
@@ -24,7 +25,7 @@ without-in P (m ∷ ms) gs k = all-append _ (take (m .gap) gs) _ (all-take _ (m 
 
 -- Clusters that have Q.
 module _ (Q : ℕ → Type 0) where
-  at-in : (own : ℕ) (ns : List ℕ) → Q own → Clusters Q (map (atCluster own) ns)
+  pub at-in : (own : ℕ) (ns : List ℕ) → Q own → Clusters Q (map (atCluster own) ns)
   at-in own [] h = tt
   at-in own (n ∷ ns) h = (h, at-in own ns h)
 
@@ -41,15 +42,21 @@ module _ (Q : ℕ → Type 0) where
   changed-in (nest rs) own ms i gs h k = k
 
   -- what was matched has Q too
-  pub strike-good : (inputs : Inputs) (p : ℕ) (s s′ : State) (k : Strike inputs p s s′) → Clusters Q (s .run) → Q (k .match .own) × Q (k .match .lo) × Q (k .match .hi)
-  strike-good inputs p s s′ k h =
+  strike-match : (inputs : Inputs) (p : ℕ) (s s′ : State) (k : Strike inputs p s s′) → Clusters Q (s .run) → GoodMatch Q (k .first .cluster) (k .after) (some (k .match))
+  strike-match inputs p s s′ k h =
       let rest = subst (Clusters Q) (k .rest) (all-drop _ p (s .run) h) in
-      let good = subst (GoodMatch Q (k .first .cluster) (k .after)) (k .chosen) (choose-good Q (passesOver (inputs .font) (k .lookup)) (k .lookup .candidates (k .alternate) (k .first .glyph)) (reverse (take p (s .run))) (k .first .cluster) (k .after) (rest .0) (all-reverse _ (take p (s .run)) (all-take _ p (s .run) h)) (rest .1)) in
-      (subst Q (sym (good .0)) (rest .0), good .1, good .2)
+      subst (GoodMatch Q (k .first .cluster) (k .after)) (k .chosen) (choose-good Q (passesOver (inputs .font) (k .lookup)) (k .lookup .candidates (k .alternate) (k .first .glyph)) (reverse (take p (s .run))) (k .first .cluster) (k .after) (rest .0) (all-reverse _ (take p (s .run)) (all-take _ p (s .run) h)) (rest .1))
+
+  pub strike-hi : (inputs : Inputs) (p : ℕ) (s s′ : State) (k : Strike inputs p s s′) → Clusters Q (s .run) → Q (k .match .hi)
+  strike-hi inputs p s s′ k h = strike-match inputs p s s′ k h .2
 
   pub strike-in : (inputs : Inputs) (p : ℕ) (s s′ : State) → Strike inputs p s s′ → Clusters Q (s .run) → Clusters Q (s′ .run)
   strike-in inputs p s s′ k h =
-      subst (λ u. Clusters Q (u .run)) (sym (k .is)) (changed-in (k .match .action) (k .match .own) (k .match .others) p (s .run) (strike-good inputs p s s′ k h .0) h)
+      let own : Q (k .match .own) = subst Q (sym (strike-match inputs p s s′ k h .0)) (subst (Clusters Q) (k .rest) (all-drop _ p (s .run) h) .0) in
+      subst (λ u. Clusters Q (u .run)) (sym (k .is)) (changed-in (k .match .action) (k .match .own) (k .match .others) p (s .run) own h)
+
+pub strike-own : (inputs : Inputs) (p : ℕ) (s s′ : State) (k : Strike inputs p s s′) → k .match .own ≡ k .first .cluster
+strike-own inputs p s s′ k = strike-match (λ c. Unit {0}) inputs p s s′ k (clusters-any (s .run)) .0
 
 -- The cut is free after an attempt that was not refused.
 abbrev pub Calm : ℕ → Attempt → Type 0

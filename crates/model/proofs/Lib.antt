@@ -10,3 +10,9 @@ mod Embed
 mod Steps
 mod Passes
 mod Cut
+mod Plans
+mod Total
+mod Rises
+mod Marks
+mod Outcomes
+mod Pieces

@@ -128,7 +128,7 @@ module _ (a n cut base : ℕ) (xs ys : List Glyph) (outer : ℕ → Bool) (below
   turn : (i : ℕ) (s : State) (e : Ending) (u : Step) → step inputs x i s ≡ u → StepKept u → (j : ℕ) (w : State) → on j w ≡ moved u → ((i′ : ℕ) (s′ : State) → j ≡ length xs + i′ → w ≡ In s′ → i′ ≤ length (s′ .run) → Inside s′ → Parted i′ s′ e) → Parted i s e
   turn i s e (on i′ s′) p k j w q ih =
       let r = ih i′ s′ (cc) (cc) (k .0) (k .1) in
-      (r .0, next p (r .1), r .2, r .3)
+      (r .0, next {z = accepted (r .0)} p (r .1), r .2, r .3)
   turn i s e (over (accepted s′)) p k j w q ih = absurd (never _ _ _ q)
   turn i s e (over (stopped z)) p k j w q ih = absurd (never _ _ _ q)
 

@@ -5,7 +5,7 @@ use mathlib.Core.List.{List, [], _∷_, _++_, map}
 use mathlib.Core.Logic.{_⊎_}
 use Prim.Native.Nat.{ℕ, _+_, _-_, _<_, _≤_}
 use lib.ListN.{length, take, drop, getD}
-use Rattle.std.specs.shelf.Lists.{All, sum}
+use Rattle.std.specs.shelf.Lists.{All, sumBy}
 use Rattle.font.specs.Font.{width}
 use Rattle.model.specs.declared.Glyph.{Glyph}
 use Rattle.model.specs.Edits.{Edit, atCluster}
@@ -106,5 +106,5 @@ runWidth advance run = width advance (map (λ g. g .glyph) run)
 abbrev pub SumsOfPieces : Type 0
 SumsOfPieces =
     (inputs : Inputs) (text : List ℕ) (w : Shaped) (cuts : List ℕ) (parts : List Shaped) → Shapes inputs text (shaped w) → Cuts (w .marks) 0 (length text) cuts → Alone inputs (pieces 0 cuts text) parts
-    → (length (w .run) ≡ sum (map (λ p. length (p .run)) parts)) × (w .hits ≡ sum (map (λ p. p .hits) parts))
-    × ((advance : ℕ → ℕ) → runWidth advance (w .run) ≡ sum (map (λ p. runWidth advance (p .run)) parts))
+    → (length (w .run) ≡ sumBy (λ p. length (p .run)) parts) × (w .hits ≡ sumBy (λ p. p .hits) parts)
+    × ((advance : ℕ → ℕ) → runWidth advance (w .run) ≡ sumBy (λ p. runWidth advance (p .run)) parts)
