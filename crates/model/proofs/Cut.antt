@@ -22,7 +22,7 @@ use Rattle.model.proofs.Embed.{embed}
 use Rattle.model.proofs.Steps.{Steps, accepted-not, accepted-one, from-steps, last, next, over, step, sweeps-by, to-steps}
 use Rattle.model.proofs.Passes.{SoftEnd, back-in, back-last, pass-in, pass-last}
 
-raise-none : (gs : List Glyph) → map (raise 0) gs ≡ gs
+pub raise-none : (gs : List Glyph) → map (raise 0) gs ≡ gs
 raise-none [] = refl
 raise-none (g ∷ gs) = ap₂ {C = List Glyph} (λ x l. x ∷ l) (λ i. record { glyph = g .glyph; cluster = zero-add (g .cluster) i }) (raise-none gs)
 

@@ -16,3 +16,5 @@ mod Rises
 mod Marks
 mod Outcomes
 mod Pieces
+mod Sums
+mod Lines

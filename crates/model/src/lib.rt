@@ -1,6 +1,6 @@
 // The definitions of shaping, and the laws about them.
 ghost use Rattle.model.specs.Examples.{WorkedExamples, FurtherExamples};
-ghost use Rattle.model.specs.Laws.{AtMostOneOutcome, AlwaysAnOutcome, ClustersRise, TiesStay, LimitsHold, RefusalsAreTwo, CutInTwo};
+ghost use Rattle.model.specs.Laws.{AtMostOneOutcome, AlwaysAnOutcome, ClustersRise, TiesStay, LimitsHold, RefusalsAreTwo, CutInTwo, CutInPieces, LineAlone, SumsOfPieces};
 
 // A glyph of a run: its number, and the cluster that it belongs to.
 #[derive(Clone, Copy)]
@@ -42,6 +42,21 @@ pub fn refusals_are_two()
 // The cutting law: where a text may be broken, its two parts shaped alone and joined are the whole.
 pub fn cut_in_two()
     ensures { λ _. ⌜ CutInTwo ⌝ }
+{}
+
+// The same for any list of places where the text may be broken.
+pub fn cut_in_pieces()
+    ensures { λ _. ⌜ CutInPieces ⌝ }
+{}
+
+// A line between two such places, shaped alone, is its part of the whole.
+pub fn line_alone()
+    ensures { λ _. ⌜ LineAlone ⌝ }
+{}
+
+// Glyph count, hits and width are the sums of the pieces'.
+pub fn sums_of_pieces()
+    ensures { λ _. ⌜ SumsOfPieces ⌝ }
 {}
 
 // What the definitions say of nine small texts.
