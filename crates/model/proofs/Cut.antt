@@ -18,6 +18,7 @@ use Rattle.model.specs.Shaping.{Ending, Entry, Inputs, Pass, Runs, State, Swee
 use Rattle.model.specs.Laws.{raise}
 use Rattle.model.proofs.Seek.{Clusters}
 use Rattle.model.proofs.Choose.{Above, Below}
+use Rattle.model.proofs.Change.{whole}
 use Rattle.model.proofs.Embed.{embed}
 use Rattle.model.proofs.Steps.{Steps, accepted-not, accepted-one, from-steps, last, next, over, step, sweeps-by, to-steps}
 use Rattle.model.proofs.Passes.{SoftEnd, back-in, back-last, pass-in, pass-last}
@@ -92,19 +93,27 @@ module _ (b m : ℕ) where
         let is : w ≡ RightIn l′ (left .3) (right .0) = cc in
         (l′, right .0, left .1, right .1, is ∙ sym (right-is l′ (left .3) (right .0)), left .3, right .3)
 
+    -- a backward pass over the right part, then over the left one
+    back-right : (x : Entry) (l r w : State) → Clusters (λ p. p < b) (l .run) → Clusters (λ p. p < m) (r .run) → w .tied b ≡ false → accepted w ≡ backPass inputs x (length (l .run) + length (r .run)) (beside b m l r) → (r′ : State) × (accepted r′ ≡ backPass inputs x (length (r .run)) r) × (accepted w ≡ backPass inputs x (length (l .run)) (beside b m l r′)) × Clusters (λ p. p < m) (r′ .run)
+    back-right x l r w hl hr c p =
+        let whole : accepted w ≡ backPass inputs x (length (l .run) + length (r .run)) (RightIn l hl r) = p ∙ ap (backPass inputs x (length (l .run) + length (r .run))) (right-is l hl r) in
+        let right = back-in b m b (l .hits) (l .run) [] (λ c. cond (ltb c b) (l .tied c) false) (below-right b (l .run) hl) tt inputs x (length (r .run)) r (omega arith) hr (subst (SoftEnd b) whole c) in
+        let left : accepted w ≡ backPass inputs x (length (l .run)) (RightIn l hl (right .0)) = whole ∙ right .2 in
+        (right .0, sym (right .1), left ∙ ap (backPass inputs x (length (l .run))) (sym (right-is l hl (right .0))), right .3)
+
+    back-left : (x : Entry) (l r w : State) → Clusters (λ p. p < b) (l .run) → w .tied b ≡ false → accepted w ≡ backPass inputs x (length (l .run)) (beside b m l r) → (l′ : State) × (accepted l′ ≡ backPass inputs x (length (l .run)) l) × (w ≡ beside b m l′ r) × Clusters (λ p. p < b) (l′ .run)
+    back-left x l r w hl c p =
+        let whole : accepted w ≡ backPass inputs x (0 + length (l .run)) (LeftIn r l) = p ∙ ap₂ (backPass inputs x) (sym (zero-add (length (l .run)))) (left-is l r) in
+        let left = back-in 0 b b (r .hits) [] (map (raise b) (r .run)) (λ c. cond (ltb c (b + m)) (r .tied (c - b)) false) tt (above-left b (r .run)) inputs x (length (l .run)) l (omega arith) hl (subst (SoftEnd b) whole c) in
+        let is : w ≡ LeftIn r (left .0) = accepted-one w (LeftIn r (left .0)) (whole ∙ left .2) in
+        (left .0, sym (left .1), is ∙ sym (left-is (left .0) r), left .3)
+
     backward : (x : Entry) (l r w : State) → Clusters (λ p. p < b) (l .run) → Clusters (λ p. p < m) (r .run) → w .tied b ≡ false → accepted w ≡ backPass inputs x (length (beside b m l r .run)) (beside b m l r) → Halves (λ u. accepted u ≡ backPass inputs x (length (l .run)) l) (λ u. accepted u ≡ backPass inputs x (length (r .run)) r) w
     backward x l r w hl hr c p =
-        let B : ℕ → State → Ending = backPass inputs x in
         let size : length (beside b m l r .run) ≡ length (l .run) + length (r .run) = simp (length-append, length-map) in
-        let p₁ : accepted w ≡ B (length (l .run) + length (r .run)) (RightIn l hl r) = p ∙ ap₂ B size (right-is l hl r) in
-        let right = back-in b m b (l .hits) (l .run) [] (λ c. cond (ltb c b) (l .tied c) false) (below-right b (l .run) hl) tt inputs x (length (r .run)) r (omega arith) hr (subst (SoftEnd b) p₁ c) in
-        let r′ : State = right .0 in
-        let p₂ : accepted w ≡ B (0 + length (l .run)) (LeftIn r′ l) = p₁ ∙ right .2 ∙ ap₂ B (sym (zero-add (length (l .run)))) (sym (right-is l hl r′) ∙ left-is l r′) in
-        let left = back-in 0 b b (r′ .hits) [] (map (raise b) (r′ .run)) (λ c. cond (ltb c (b + m)) (r′ .tied (c - b)) false) tt (above-left b (r′ .run)) inputs x (length (l .run)) l (omega arith) hl (subst (SoftEnd b) p₂ c) in
-        let l′ : State = left .0 in
-        let end : accepted w ≡ accepted (LeftIn r′ l′) = p₂ ∙ left .2 in
-        let is : w ≡ LeftIn r′ l′ = accepted-one _ _ end in
-        (l′, r′, sym (left .1), sym (right .1), is ∙ sym (left-is l′ r′), left .3, right .3)
+        let right = back-right x l r w hl hr c (subst (λ n. accepted w ≡ backPass inputs x n (beside b m l r)) size p) in
+        let left = back-left x l (right .0) w hl c (right .2) in
+        (left .0, right .0, left .1, right .1, left .2, left .3, right .3)
 
     sweep : (x : Entry) (l r w : State) → Clusters (λ p. p < b) (l .run) → Clusters (λ p. p < m) (r .run) → w .tied b ≡ false → Sweeps inputs x (beside b m l r) (accepted w) → Halves (λ u. Sweeps inputs x l (accepted u)) (λ u. Sweeps inputs x r (accepted u)) w
     sweep x l r w hl hr c = by (inputs .table (x .lookup) .backward)

@@ -11,19 +11,19 @@ use Rattle.model.specs.declared.Glyph.{Glyph}
 use Rattle.model.specs.Lookups.{LookupRecord, Action, put, join, nest, Candidate, Lookup, passesOver}
 use Rattle.model.specs.Shaping.{Entry, Inputs, Shaped, Outcome, refused, shaped, Shapes}
 
--- The font: each character's glyph is its number. Bases are 11, ligatures 12, marks 3, 13 (mark class 1, in mark set 0) and 14 (mark class 2, in no set).
+-- The font: a character's glyph is its number, but that of character 20 is x. Bases are 11, ligatures 12, marks 3, 13 (mark class 1, in mark set 6) and 14 (mark class 2, in no set).
 abbrev pub font : Font
 font =
     record {
-      glyph = λ c. c;
+      glyph = λ c. cond (eqb c 20) 5 c;
       class = λ g. cond (eqb g 11) 1 (cond (eqb g 12) 2 (cond (eqb g 3) 3 (cond (eqb g 13) 3 (cond (eqb g 14) 3 0))));
       markClass = λ g. cond (eqb g 13) 1 (cond (eqb g 14) 2 0);
-      inMarkSet = λ k g. eqb k 0 && eqb g 13;
+      inMarkSet = λ k g. eqb k 6 && eqb g 13;
     }
 
--- A lookup with a flag and candidates for one glyph.
+-- A lookup with a flag, mark set 6 and candidates for one glyph.
 abbrev pub forward : (flag glyph : ℕ) → List Candidate → Lookup
-forward flag n cs = record { flag = flag; markSet = 0; backward = false; candidates = λ alt g. cond (eqb g n) cs [] }
+forward flag n cs = record { flag = flag; markSet = 6; backward = false; candidates = λ alt g. cond (eqb g n) cs [] }
 
 abbrev pub backward : (glyph : ℕ) → List Candidate → Lookup
 backward n cs = record { flag = 0; markSet = 0; backward = true; candidates = λ alt g. cond (eqb g n) cs [] }
@@ -129,23 +129,29 @@ pub record FurtherExamples : Type 0 where
   pub mergeHasLowerBound : Gives (ligature 0) (5 ∷ 1 ∷ 2 ∷ []) (5 ∶ 0 ∷ 4 ∶ 1 ∷ []) (0 ∷ 0 ∷ 2 ∷ []) 1
   -- a ligature of a ligature over a mark: 4 m i → 8
   pub ligatureOverMark : Gives (forward 8 4 (rule [] (2 ∷ []) [] (join 8) ∷ []) ∷ []) (4 ∷ 3 ∷ 2 ∷ 5 ∷ []) (8 ∶ 0 ∷ 3 ∶ 0 ∷ 5 ∶ 3 ∷ []) (0 ∷ 2 ∷ 2 ∷ 0 ∷ []) 1
+  -- clusters merge up to the last component's: f i m i → 4 m
+  pub mergesToTheLast : Gives (forward 8 1 (rule [] (2 ∷ 2 ∷ []) [] (join 4) ∷ []) ∷ []) (1 ∷ 2 ∷ 3 ∷ 2 ∷ []) (4 ∶ 0 ∷ 3 ∶ 0 ∷ []) (0 ∷ 2 ∷ 2 ∷ 2 ∷ []) 1
   -- RECORDS
   -- a record that grows the list of positions: f becomes f f, index 1 is then the second f, and index 2 is i
   pub growsPositions : Gives (overFix (0 runs 1 ∷ 1 runs 2 ∷ 2 runs 3 ∷ []) (forward 0 1 (rule [] [] [] (put (1 ∷ 1 ∷ [])) ∷ []) ∷ forward 0 1 (rule [] [] [] (put (7 ∷ [])) ∷ []) ∷ i→8 ∷ [])) (1 ∷ 2 ∷ 5 ∷ []) (1 ∶ 0 ∷ 7 ∶ 0 ∷ 8 ∶ 1 ∷ 5 ∶ 2 ∷ []) (0 ∷ 1 ∷ 1 ∷ []) 4
-  -- one that removes an input glyph: the ligature takes i out of the list, and index 1 is then x
-  pub removesInput : Gives (overFix (0 runs 1 ∷ 1 runs 2 ∷ []) (forward 0 1 (rule [] (2 ∷ []) [] (join 4) ∷ []) ∷ x→9 ∷ [])) (1 ∷ 2 ∷ 5 ∷ []) (4 ∶ 0 ∷ 9 ∶ 2 ∷ []) (0 ∷ 2 ∷ 1 ∷ []) 3
+  -- one that removes an input glyph: the ligature takes i out of the list, index 1 is then x, and index 2 is past the list
+  pub removesInput : Gives (overFix (0 runs 1 ∷ 1 runs 2 ∷ 2 runs 3 ∷ []) (forward 0 1 (rule [] (2 ∷ []) [] (join 4) ∷ []) ∷ x→9 ∷ i→8 ∷ [])) (1 ∷ 2 ∷ 5 ∷ 2 ∷ []) (4 ∶ 0 ∷ 9 ∶ 2 ∷ 2 ∶ 3 ∷ []) (0 ∷ 2 ∷ 1 ∷ 0 ∷ []) 3
+  -- one that removes two: of f i i m x, where the outer match passes over m, index 1 is then x
+  pub removesTwo : Gives (forward 8 1 (rule [] (2 ∷ 2 ∷ 5 ∷ []) [] (nest (0 runs 1 ∷ 1 runs 2 ∷ [])) ∷ []) ∷ forward 0 1 (rule [] (2 ∷ 2 ∷ []) [] (join 4) ∷ []) ∷ x→9 ∷ []) (1 ∷ 2 ∷ 2 ∷ 3 ∷ 5 ∷ []) (4 ∶ 0 ∷ 3 ∶ 3 ∷ 9 ∶ 4 ∷ []) (0 ∷ 2 ∷ 2 ∷ 1 ∷ 1 ∷ []) 3
   -- a ligature over a mark inside an open match f m i: the mark keeps its place in the list
   pub ligatureInside : Gives (forward 0 1 (rule [] (3 ∷ 2 ∷ []) [] (nest (0 runs 1 ∷ 1 runs 2 ∷ [])) ∷ []) ∷ forward 8 1 (rule [] (2 ∷ []) [] (join 4) ∷ []) ∷ forward 0 3 (rule [] [] [] (put (7 ∷ [])) ∷ []) ∷ []) (1 ∷ 3 ∷ 2 ∷ []) (4 ∶ 0 ∷ 7 ∶ 0 ∷ []) (0 ∷ 2 ∷ 2 ∷ []) 3
   -- a record of a record: the outermost match hears of its edits too, and index 2 is then i
   pub toldToAll : Gives (overFix (0 runs 1 ∷ 2 runs 3 ∷ []) (forward 0 1 (rule [] [] [] (nest (0 runs 2 ∷ [])) ∷ []) ∷ forward 0 1 (rule [] [] [] (put (1 ∷ 1 ∷ [])) ∷ []) ∷ i→8 ∷ [])) (1 ∷ 2 ∷ 5 ∷ []) (1 ∶ 0 ∷ 1 ∶ 0 ∷ 8 ∶ 1 ∷ 5 ∶ 2 ∷ []) (0 ∷ 1 ∷ 1 ∷ []) 4
+  -- and it hears of them in order: of f i m x, where the outer match passes over m, f and then i are doubled, and index 4 is x
+  pub toldInOrder : Gives (forward 8 1 (rule [] (2 ∷ 5 ∷ []) [] (nest (0 runs 1 ∷ 4 runs 4 ∷ [])) ∷ []) ∷ forward 0 1 (rule [] (2 ∷ []) [] (nest (0 runs 2 ∷ 2 runs 3 ∷ [])) ∷ []) ∷ forward 0 1 (rule [] [] [] (put (1 ∷ 1 ∷ [])) ∷ []) ∷ forward 0 2 (rule [] [] [] (put (2 ∷ 2 ∷ [])) ∷ []) ∷ x→9 ∷ []) (1 ∷ 2 ∷ 3 ∷ 5 ∷ []) (1 ∶ 0 ∷ 1 ∶ 0 ∷ 2 ∶ 1 ∷ 2 ∶ 1 ∷ 3 ∶ 2 ∷ 9 ∶ 3 ∷ []) (0 ∷ 1 ∷ 1 ∷ 1 ∷ []) 5
   -- glyphs that grow from one that is in no list enter no list: m, passed over by the outer match, becomes m m, and index 1 is still i
   pub growsOutsideTheList : Gives (forward 8 1 (rule [] (2 ∷ []) [] (nest (0 runs 1 ∷ 1 runs 3 ∷ [])) ∷ []) ∷ forward 0 1 (rule [] (3 ∷ []) [] (nest (1 runs 2 ∷ [])) ∷ []) ∷ forward 0 3 (rule [] [] [] (put (3 ∷ 3 ∷ [])) ∷ []) ∷ i→8 ∷ []) (1 ∷ 3 ∷ 2 ∷ []) (1 ∶ 0 ∷ 3 ∶ 1 ∷ 3 ∶ 1 ∷ 8 ∶ 2 ∷ []) (0 ∷ 1 ∷ 1 ∷ []) 4
   -- a record that reaches past the outer match's end, which stays: i grows to i i behind the match f, and the pass meets both
   pub reachesPastTheEnd : Gives (record { flag = 0; markSet = 0; backward = false; candidates = λ alt g. cond (eqb g 1) (rule [] [] [] (nest (0 runs 1 ∷ [])) ∷ []) (cond (eqb g 2) (rule [] [] [] (put (8 ∷ [])) ∷ []) []) } ∷ forward 0 1 (rule [] (2 ∷ []) [] (nest (1 runs 2 ∷ [])) ∷ []) ∷ forward 0 2 (rule [] [] [] (put (2 ∷ 2 ∷ [])) ∷ []) ∷ []) (1 ∷ 2 ∷ []) (1 ∶ 0 ∷ 8 ∶ 1 ∷ 8 ∶ 1 ∷ []) (0 ∷ 1 ∷ []) 5
   -- a change inside the match moves its end along, so that the pass does not meet the new glyphs
   pub endMovesAlong : Gives (record { flag = 0; markSet = 0; backward = false; candidates = λ alt g. cond (eqb g 1) (rule [] (2 ∷ []) [] (nest (0 runs 1 ∷ [])) ∷ []) (cond (eqb g 2) (rule [] [] [] (put (8 ∷ [])) ∷ []) []) } ∷ forward 0 1 (rule [] [] [] (put (2 ∷ 2 ∷ [])) ∷ []) ∷ []) (1 ∷ 2 ∷ 2 ∷ []) (2 ∶ 0 ∷ 2 ∶ 0 ∷ 2 ∶ 1 ∷ 8 ∶ 2 ∷ []) (0 ∷ 1 ∷ 0 ∷ []) 3
-  -- an index past the list does nothing
-  pub indexPastTheList : Gives (overFix (3 runs 1 ∷ 1 runs 1 ∷ []) (i→8 ∷ [])) (1 ∷ 2 ∷ 5 ∷ []) (1 ∶ 0 ∷ 8 ∶ 1 ∷ 5 ∶ 2 ∷ []) (0 ∷ 1 ∷ 1 ∷ []) 2
+  -- an index past the list does nothing, neither to the first nor to the last glyph
+  pub indexPastTheList : Gives (overFix (3 runs 1 ∷ 3 runs 2 ∷ 1 runs 3 ∷ []) (forward 0 1 (rule [] [] [] (put (7 ∷ [])) ∷ []) ∷ x→9 ∷ i→8 ∷ [])) (1 ∷ 2 ∷ 5 ∷ []) (1 ∶ 0 ∷ 8 ∶ 1 ∷ 5 ∶ 2 ∷ []) (0 ∷ 1 ∷ 1 ∷ []) 2
   -- the list is cut to 64: f becomes 64 glyphs, so that i falls off, and index 64 is past the list; index 63 is the last of the new glyphs
   pub first64 : Shapes (inputs (forward 0 1 (rule [] (2 ∷ []) [] (nest (0 runs 1 ∷ 64 runs 2 ∷ 63 runs 3 ∷ [])) ∷ []) ∷ forward 0 1 (rule [] [] [] (put (replicate 64 5)) ∷ []) ∷ i→8 ∷ x→9 ∷ []) 10 70) (1 ∷ 2 ∷ []) (shaped (record { run = replicate 63 (5 ∶ 0) ++ (9 ∶ 0 ∷ 2 ∶ 1 ∷ []); marks = 0 ∷ 1 ∷ []; hits = 3 }))
   -- a lookup that names itself: the plan's attempt and five records inside one another hit, a sixth does not run
@@ -164,6 +170,10 @@ pub record FurtherExamples : Type 0 where
   -- PLANS
   -- entries run in order, each on what the one before left: i → x, then x → 9
   pub inOrder : Shapes (record { font = font; table = λ n. getD (toX ++ (x→9 ∷ [])) n x→9; plan = record { lookup = 0; alternate = 1 } ∷ record { lookup = 1; alternate = 1 } ∷ []; limit = 10; room = 10 }) (2 ∷ 5 ∷ []) (shaped (record { run = 9 ∶ 0 ∷ 9 ∶ 1 ∷ []; marks = 0 ∷ 0 ∷ []; hits = 3 }))
+  -- a backward pass begins with the last glyph, and goes on after a hit
+  pub fromTheLast : Gives (backward 2 (rule (1 ∷ []) [] [] (put (8 ∷ [])) ∷ []) ∷ []) (1 ∷ 2 ∷ 1 ∷ 2 ∷ []) (1 ∶ 0 ∷ 8 ∶ 1 ∷ 1 ∶ 2 ∷ 8 ∶ 3 ∷ []) (0 ∷ 1 ∷ 0 ∷ 1 ∷ []) 2
+  -- the first run has the font's glyphs
+  pub fontsGlyph : Gives (x→9 ∷ []) (20 ∷ []) (9 ∶ 0 ∷ []) (0 ∷ []) 1
   -- a record's lookup has the plan entry's alternate value
   pub alternateOfTheEntry : Shapes (record { font = font; table = λ n. getD (forward 0 2 (rule [] [] [] (nest (0 runs 1 ∷ [])) ∷ []) ∷ []) n (record { flag = 0; markSet = 0; backward = false; candidates = λ alt g. rule [] [] [] (put (alt ∷ [])) ∷ [] }); plan = record { lookup = 0; alternate = 7 } ∷ []; limit = 10; room = 10 }) (2 ∷ []) (shaped (record { run = 7 ∶ 0 ∷ []; marks = 0 ∷ []; hits = 2 }))
   -- PASSING OVER, for base 11, ligature 12 and marks 13 and 14 of mark classes 1 and 2
