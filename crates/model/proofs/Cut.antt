@@ -20,8 +20,9 @@ use Rattle.model.proofs.Seek.{Clusters}
 use Rattle.model.proofs.Choose.{Above, Below}
 use Rattle.model.proofs.Change.{whole}
 use Rattle.model.proofs.Embed.{embed}
-use Rattle.model.proofs.Steps.{Steps, accepted-not, accepted-one, from-steps, last, next, over, step, sweeps-by, to-steps}
-use Rattle.model.proofs.Passes.{SoftEnd, back-in, back-last, pass-in, pass-last}
+use Rattle.model.proofs.Steps.{Steps, accepted-not, accepted-one, from-steps, last, next, over, step, to-steps}
+use Rattle.model.proofs.Plans.{SoftEnd, runs-free}
+use Rattle.model.proofs.Passes.{back-in, pass-in}
 
 pub raise-none : (gs : List Glyph) → map (raise 0) gs ≡ gs
 raise-none [] = refl
@@ -124,19 +125,10 @@ module _ (b m : ℕ) where
             let h = forward x l r w hl hr c (to-steps inputs x p) in
             (h .0, h .1, from-steps inputs x (h .2), from-steps inputs x (h .3), h .4, h .5, h .6)
 
-    sweep-last : (x : Entry) (s w : State) → w .tied b ≡ false → Sweeps inputs x s (accepted w) → s .tied b ≡ false
-    sweep-last x s w c p =
-        sweeps-by inputs x (λ s z. SoftEnd b z → s .tied b ≡ false) (λ s. back-last inputs x b (length (s .run)) s) (λ s z q. pass-last inputs x b q) s (accepted w) p c
-
-    runs-last : (plan : List Entry) (s w : State) → w .tied b ≡ false → Runs inputs plan s (accepted w) → s .tied b ≡ false
-    runs-last [] s w c p = let same : w ≡ s = accepted-one _ _ p in subst (λ u. u .tied b ≡ false) same c
-    runs-last (x ∷ plan) s w c (inl (s′, p, r)) = sweep-last x s s′ (runs-last plan s′ w c r) p
-    runs-last (x ∷ plan) s w c (inr (k, p, e)) = absurd (accepted-not _ _ e)
-
     runs : (plan : List Entry) (l r w : State) → Clusters (λ p. p < b) (l .run) → Clusters (λ p. p < m) (r .run) → w .tied b ≡ false → Runs inputs plan (beside b m l r) (accepted w) → (l′ : State) × (r′ : State) × Runs inputs plan l (accepted l′) × Runs inputs plan r (accepted r′) × (w ≡ beside b m l′ r′)
     runs [] l r w hl hr c p = (l, r, refl, refl, accepted-one _ _ p)
     runs (x ∷ plan) l r w hl hr c (inl (s, p, q)) =
-        let half = sweep x l r s hl hr (runs-last plan s w c q) p in
+        let half = sweep x l r s hl hr (runs-free inputs b plan s (accepted w) q c) p in
         let rest = runs plan (half .0) (half .1) w (half .5) (half .6) c (subst (λ u. Runs inputs plan u (accepted w)) (half .4) q) in
         (rest .0, rest .1, inl (half .0, half .2, rest .2), inl (half .1, half .3, rest .3), rest .4)
     runs (x ∷ plan) l r w hl hr c (inr (k, p, e)) = absurd (accepted-not _ _ e)

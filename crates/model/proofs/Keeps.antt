@@ -1,6 +1,6 @@
 -- What each change keeps, and so every attempt.
-use mathlib.Core.Path.{_≡_, subst, sym}
-use mathlib.Core.Bool.{_&&_, false}
+use mathlib.Core.Path.{_≡_, refl, subst, sym}
+use mathlib.Core.Bool.{Bool, _&&_, false, true}
 use mathlib.Core.List.{List, [], _∷_, map, reverse}
 use mathlib.Core.Option.{some}
 use Prim.Native.Nat.{_<_, _≤_, suc, zero-le, ℕ}
@@ -9,7 +9,7 @@ use lib.Dec.{leb}
 use lib.ListN.{drop, length, take}
 use Rattle.std.specs.shelf.Lists.{All}
 use Rattle.std.proofs.shelf.Elements.{all-append, all-drop, all-take}
-use Rattle.std.proofs.shelf.Tests.{cond-both, or-parts}
+use Rattle.std.proofs.shelf.Tests.{cond-both, or-left}
 use Rattle.model.specs.declared.Glyph.{Glyph}
 use Rattle.model.specs.Lookups.{Action, Met, far, join, nest, passesOver, put}
 use Rattle.model.specs.Edits.{atCluster, changed, merged, without}
@@ -17,7 +17,7 @@ use Rattle.model.specs.Shaping.{Attempt, Inputs, State, barred, hit, miss}
 use Rattle.model.proofs.Seek.{Clusters}
 use Rattle.model.proofs.Change.{all-reverse}
 use Rattle.model.proofs.Frames.{Valid, valid-from, valid-weaker}
-use Rattle.model.proofs.Chain.{Chain, Comes, GoodMatch, Makes, Strike, chain-keeps, choose-good, clusters-any, inside-from, more}
+use Rattle.model.proofs.Chain.{Comes, GoodMatch, Makes, Strike, chain-keeps, choose-good, clusters-any, inside-from, more}
 
 pub without-in : (P : Glyph → Type 0) (ms : List Met) (gs : List Glyph) → All P gs → All P (without ms gs)
 without-in P [] gs k = k
@@ -58,17 +58,16 @@ module _ (Q : ℕ → Type 0) where
 pub strike-own : (inputs : Inputs) (p : ℕ) (s s′ : State) (k : Strike inputs p s s′) → k .match .own ≡ k .first .cluster
 strike-own inputs p s s′ k = strike-match (λ c. Unit {0}) inputs p s s′ k (clusters-any (s .run)) .0
 
+-- what stays tied and is free after was free before
+pub untied : (t u : Bool) → (t ≡ true → u ≡ true) → u ≡ false → t ≡ false
+untied true u h e = let tied = h refl in cc
+untied false u h e = refl
+
 -- The cut is free after an attempt that was not refused.
 abbrev pub Calm : ℕ → Attempt → Type 0
 Calm cut miss = Unit {0}
 Calm cut (barred k) = ⊥
 Calm cut (hit s e es) = s .tied cut ≡ false
-
--- free after an attempt, so free before it
-abbrev pub Lasts : ℕ → State → Attempt → Type 0
-Lasts cut s miss = Unit {0}
-Lasts cut s (barred k) = Unit {0}
-Lasts cut s (hit s′ e es) = s′ .tied cut ≡ false → s .tied cut ≡ false
 
 -- clusters below n stay so, and the edits fit
 abbrev pub Kept : ℕ → State → Attempt → Type 0
@@ -82,20 +81,13 @@ From p (barred k) = Unit {0}
 From p (hit s e es) = p ≤ length (s .run)
 
 module _ (inputs : Inputs) where
-  -- a cluster that is free after was free before
-  pub chain-free : (c : ℕ) {s s′ : State} → Chain inputs s s′ → s′ .tied c ≡ false → s .tied c ≡ false
-  chain-free c {s} k =
-      chain-keeps inputs (λ u. u .tied c ≡ false → s .tied c ≡ false) (λ p u u′ k h f. h (or-parts (u .tied c) _ (subst (λ v. v .tied c ≡ false) (k .is) f) .0)) k (λ f. f)
+  pub strike-tied : (c p : ℕ) (s s′ : State) → Strike inputs p s s′ → s .tied c ≡ true → s′ .tied c ≡ true
+  strike-tied c p s s′ k h = subst (λ u. u .tied c ≡ true) (sym (k .is)) (or-left (s .tied c) _ h)
 
   pub comes-calm : (V : Type 0) (cut at a : ℕ) (s : State) (o : Attempt) → Comes inputs V at a s o → Calm cut o → s .tied cut ≡ false
   comes-calm V cut at a s miss h c = absurd h
   comes-calm V cut at a s (barred n) h c = absurd c
-  comes-calm V cut at a s (hit s′ e es) h c = chain-free cut (h .0) c
-
-  pub makes-last : (cut p : ℕ) (s : State) (o : Attempt) → Makes inputs p s o → Lasts cut s o
-  makes-last cut p s miss h = tt
-  makes-last cut p s (barred k) h = tt
-  makes-last cut p s (hit s′ e es) (s₁, k, c, v, i) = chain-free cut (more k c)
+  comes-calm V cut at a s (hit s′ e es) h c = untied (s .tied cut) (s′ .tied cut) (chain-keeps inputs (λ u. u .tied cut ≡ true) (strike-tied cut) (h .0)) c
 
   pub makes-kept : (n p : ℕ) (s : State) (o : Attempt) → Clusters (λ c. c < n) (s .run) → Makes inputs p s o → Kept n s o
   makes-kept n p s miss h k = tt

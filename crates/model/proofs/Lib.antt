@@ -8,9 +8,9 @@ mod Chain
 mod Keeps
 mod Embed
 mod Steps
+mod Plans
 mod Passes
 mod Cut
-mod Plans
 mod Total
 mod Rises
 mod Marks

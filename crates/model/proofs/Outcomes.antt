@@ -13,10 +13,10 @@ use Rattle.model.specs.Shaping.{Ending, Inputs, Outcome, Runs, Shaped, Shapes,
 use Rattle.model.specs.Laws.{AlwaysAnOutcome, AtMostOneOutcome, ClustersRise, LimitsHold, RefusalsAreTwo, Rising, TiesStay}
 use Rattle.model.proofs.Seek.{Clusters}
 use Rattle.model.proofs.Chain.{Strike}
-use Rattle.model.proofs.Keeps.{strike-in}
+use Rattle.model.proofs.Keeps.{strike-in, strike-tied}
 use Rattle.model.proofs.Steps.{accepted-one, runs-once}
+use Rattle.model.proofs.Plans.{AttemptKeeps, attempt-keeps, runs-keep, strike-hits, strike-past, strike-room, sweeps-keep}
 use Rattle.model.proofs.Cut.{laid-in, length-laid}
-use Rattle.model.proofs.Plans.{AttemptKeeps, attempt-keeps, runs-keep, strike-hits, strike-past, strike-room, strike-tied, sweeps-keep}
 use Rattle.model.proofs.Total.{runs-total}
 use Rattle.model.proofs.Rises.{laid-rising, strike-rising}
 use Rattle.model.proofs.Marks.{length-marks}

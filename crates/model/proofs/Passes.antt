@@ -11,55 +11,24 @@ use lib.ListN.{length}
 use Rattle.std.proofs.shelf.Lists.{length-append, length-map}
 use Rattle.std.proofs.shelf.Tests.{cases-lt, le-ltb, lt-ltb}
 use Rattle.model.specs.declared.Glyph.{Glyph}
-use Rattle.model.specs.Shaping.{Attempt, Ending, Entry, Inputs, State, accepted, answer, backPass, barred, hit, miss, planned, stopped}
+use Rattle.model.specs.Shaping.{Attempt, Ending, Entry, Inputs, State, accepted, backPass, barred, hit, miss, planned, stopped}
 use Rattle.model.proofs.Seek.{Clusters}
 use Rattle.model.proofs.Choose.{Above, Below}
 use Rattle.model.proofs.Chain.{attempt-makes}
-use Rattle.model.proofs.Keeps.{Calm, From, Kept, Lasts, makes-from, makes-kept, makes-last}
+use Rattle.model.proofs.Keeps.{Calm, From, Kept, makes-from, makes-kept}
 use Rattle.model.proofs.Embed.{attempt-local, embed, shifted}
 use Rattle.model.proofs.Steps.{Step, Steps, last, never, next, on, over, step, stepOn}
+use Rattle.model.proofs.Plans.{SoftEnd, back-free, backOn, steps-free}
 
 -- the cut is free
-abbrev pub SoftEnd : ℕ → Ending → Type 0
-SoftEnd cut (accepted s) = s .tied cut ≡ false
-SoftEnd cut (stopped n) = ⊥
-
 abbrev pub Soft : ℕ → Step → Type 0
 Soft cut (on j s) = s .tied cut ≡ false
 Soft cut (over e) = SoftEnd cut e
 
--- one step of a backward pass
-abbrev pub backOn : Attempt → State → (State → Ending) → Ending
-backOn o s k = answer o (k s) stopped (λ s′ e es. k s′)
-
-module _ (inputs : Inputs) (x : Entry) (cut : ℕ) where
-  stepOn-last : (t : Bool) (i : ℕ) (s : State) (o : Attempt) → Lasts cut s o → Soft cut (stepOn t i s o) → s .tied cut ≡ false
-  stepOn-last false i s o h c = c
-  stepOn-last true i s miss h c = c
-  stepOn-last true i s (barred n) h c = absurd c
-  stepOn-last true i s (hit s′ e es) h c = h c
-
-  step-last : (i : ℕ) (s : State) → Soft cut (step inputs x i s) → s .tied cut ≡ false
-  step-last i s c = stepOn-last (ltb i (length (s .run))) i s _ (makes-last inputs cut i s (planned inputs x i s) (attempt-makes inputs 6 (x .alternate) (x .lookup) i s)) c
-
-  pub pass-last : {i : ℕ} {s : State} {e : Ending} → Steps inputs x i s e → SoftEnd cut e → s .tied cut ≡ false
-  pass-last {i} {s} {e} (last p) c = step-last i s (subst (Soft cut) (sym p) c)
-  pass-last {i} {s} {e} (next p r) c = step-last i s (subst (Soft cut) (sym p) (pass-last r c))
-
-module _ (inputs : Inputs) (x : Entry) (cut : ℕ) where
-  backOn-calm : (o : Attempt) (s : State) (k : State → Ending) → ((s′ : State) → SoftEnd cut (k s′) → s′ .tied cut ≡ false) → SoftEnd cut (backOn o s k) → Calm cut o
-  backOn-calm miss s k h c = tt
-  backOn-calm (barred n) s k h c = c
-  backOn-calm (hit s′ e es) s k h c = h s′ c
-
-  backOn-last : (o : Attempt) (s : State) (k : State → Ending) → ((s′ : State) → SoftEnd cut (k s′) → s′ .tied cut ≡ false) → Lasts cut s o → SoftEnd cut (backOn o s k) → s .tied cut ≡ false
-  backOn-last miss s k h g c = h s c
-  backOn-last (barred n) s k h g c = absurd c
-  backOn-last (hit s′ e es) s k h g c = g (h s′ c)
-
-  pub back-last : (i : ℕ) (s : State) → SoftEnd cut (backPass inputs x i s) → s .tied cut ≡ false
-  back-last zero s c = c
-  back-last (suc i) s c = backOn-last _ s (backPass inputs x i) (back-last i) (makes-last inputs cut i s (planned inputs x i s) (attempt-makes inputs 6 (x .alternate) (x .lookup) i s)) c
+backOn-calm : (cut : ℕ) (o : Attempt) (s : State) (k : State → Ending) → ((s′ : State) → SoftEnd cut (k s′) → s′ .tied cut ≡ false) → SoftEnd cut (backOn o s k) → Calm cut o
+backOn-calm cut miss s k h c = tt
+backOn-calm cut (barred n) s k h c = c
+backOn-calm cut (hit s′ e es) s k h c = h s′ c
 
 end-of : (e e′ : Ending) → over e ≡ over e′ → e ≡ e′
 end-of e e′ q = cc
@@ -152,7 +121,7 @@ module _ (a n cut base : ℕ) (xs ys : List Glyph) (outer : ℕ → Bool) (below
       p₁ = subst₂ (λ u v. step inputs x u v ≡ on j₁ w₁) ej ew p
 
       by : (i < length (s .run)) ⊎ (length (s .run) ≤ i) → ((i′ : ℕ) (s′ : State) → j₁ ≡ length xs + i′ → w₁ ≡ In s′ → i′ ≤ length (s′ .run) → Inside s′ → Parted i′ s′ e) → Parted i s e
-      by (inl lt) ih = turn i s e (step inputs x i s) refl (step-kept i s lt k) j₁ w₁ (sym p₁ ∙ step-moved i s lt k (subst (Soft cut) (sym p₁) (pass-last inputs x cut r c))) ih
+      by (inl lt) ih = turn i s e (step inputs x i s) refl (step-kept i s lt k) j₁ w₁ (sym p₁ ∙ step-moved i s lt k (subst (Soft cut) (sym p₁) (steps-free inputs cut x r c))) ih
       by (inr ge) ih = at-end i s e ge h k (next p₁ r)
 
   abbrev B : ℕ → State → Ending
@@ -171,6 +140,6 @@ module _ (a n cut base : ℕ) (xs ys : List Glyph) (outer : ℕ → Bool) (below
   back-in (suc i) s h k c =
       let at : Attempt = planned inputs x (length xs + i) (In s) in
       let c₁ : SoftEnd cut (backOn at (In s) (B (length xs + i))) = subst (λ u. SoftEnd cut (B u (In s))) (add-suc (length xs) i) c in
-      let same : at ≡ Sh (planned inputs x i s) = attempt-local a n cut base xs ys outer below above inputs 6 (x .alternate) (x .lookup) i s h k (backOn-calm inputs x cut at (In s) (B (length xs + i)) (back-last inputs x cut (length xs + i)) c₁) in
+      let same : at ≡ Sh (planned inputs x i s) = attempt-local a n cut base xs ys outer below above inputs 6 (x .alternate) (x .lookup) i s h k (backOn-calm cut at (In s) (B (length xs + i)) (back-free inputs cut x (length xs + i)) c₁) in
       let r = back-turn i s (planned inputs x i s) (omega arith) k (makes-kept inputs n i s (planned inputs x i s) k (attempt-makes inputs 6 (x .alternate) (x .lookup) i s)) (makes-from inputs i s (planned inputs x i s) (attempt-makes inputs 6 (x .alternate) (x .lookup) i s)) (subst (λ o. SoftEnd cut (backOn o (In s) (B (length xs + i)))) same c₁) (back-in i) in
       (r .0, r .1, ap (λ u. B u (In s)) (add-suc (length xs) i) ∙ ap (λ o. backOn o (In s) (B (length xs + i))) same ∙ r .2, r .3)

@@ -7,13 +7,16 @@ use Prim.Native.Nat.{_<_, _≤_, suc, zero, ℕ}
 use native.Mathlib.Omega.{arith}
 use lib.Dec.{leb, ltb}
 use lib.ListN.{length}
-use Rattle.std.proofs.shelf.Tests.{lt-leb, or-left}
-use Rattle.model.specs.Shaping.{Attempt, Ending, Entry, Inputs, Runs, State, Sweeps, accepted, attempt, backPass, barred, hit, miss, planned, stopped}
+use Rattle.std.proofs.shelf.Tests.{lt-leb}
+use Rattle.model.specs.Shaping.{Attempt, Ending, Entry, Inputs, Runs, State, Sweeps, accepted, answer, attempt, backPass, barred, hit, miss, planned, stopped}
 use Rattle.model.proofs.Seek.{Clusters}
 use Rattle.model.proofs.Chain.{Makes, Refusal, Strike, attempt-makes, chain-keeps, more}
-use Rattle.model.proofs.Keeps.{strike-hi, strike-in}
+use Rattle.model.proofs.Keeps.{strike-hi, strike-in, strike-tied, untied}
 use Rattle.model.proofs.Steps.{Step, Steps, last, next, on, over, step, stepOn, sweeps-by}
-use Rattle.model.proofs.Passes.{backOn}
+
+-- one step of a backward pass
+abbrev pub backOn : Attempt → State → (State → Ending) → Ending
+backOn o s k = answer o (k s) stopped (λ s′ e es. k s′)
 
 -- a refusal is 7 or 8; otherwise I holds
 abbrev pub EndKeeps : (State → Type 0) → Ending → Type 0
@@ -53,11 +56,11 @@ module _ (inputs : Inputs) (I : State → Type 0) (each : (p : ℕ) (s s′ : St
     step-keeps : (i : ℕ) (s : State) (u : Step) → I s → step inputs x i s ≡ u → StepKeeps u
     step-keeps i s u h e = subst StepKeeps e (stepOn-keeps (ltb i (length (s .run))) i s (planned inputs x i s) h (attempt-keeps 6 (x .alternate) (x .lookup) i s h))
 
-    steps-keep : {i : ℕ} {s : State} {z : Ending} → Steps inputs x i s z → I s → EndKeeps I z
+    pub steps-keep : {i : ℕ} {s : State} {z : Ending} → Steps inputs x i s z → I s → EndKeeps I z
     steps-keep {i} {s} {z} (last p) h = step-keeps i s (over z) h p
     steps-keep {i} {s} {z} (next {j = j} {s′ = s′} p r) h = steps-keep r (step-keeps i s (on j s′) h p)
 
-    back-keeps : (i : ℕ) (s : State) → I s → EndKeeps I (backPass inputs x i s)
+    pub back-keeps : (i : ℕ) (s : State) → I s → EndKeeps I (backPass inputs x i s)
     back-keeps zero s h = h
     back-keeps (suc i) s h = backOn-keeps (planned inputs x i s) s (backPass inputs x i) h (attempt-keeps 6 (x .alternate) (x .lookup) i s h) (back-keeps i)
 
@@ -70,9 +73,6 @@ module _ (inputs : Inputs) (I : State → Type 0) (each : (p : ℕ) (s s′ : St
   runs-keep (x ∷ plan) s z (inr (n, p, e)) h = subst (EndKeeps I) (sym e) (sweeps-keep x s (stopped n) p h)
 
 module _ (inputs : Inputs) where
-  pub strike-tied : (c p : ℕ) (s s′ : State) → Strike inputs p s s′ → s .tied c ≡ true → s′ .tied c ≡ true
-  strike-tied c p s s′ k h = subst (λ u. u .tied c ≡ true) (sym (k .is)) (or-left (s .tied c) _ h)
-
   pub strike-hits : (p : ℕ) (s s′ : State) → Strike inputs p s s′ → (s .hits < s′ .hits) × (s′ .hits ≤ inputs .limit)
   strike-hits p s s′ k = subst (λ u. (s .hits < u .hits) × (u .hits ≤ inputs .limit)) (sym (k .is)) (omega arith, k .left)
 
@@ -85,3 +85,22 @@ module _ (inputs : Inputs) where
       let hi : k .match .hi < n = strike-hi (λ q. q < n) inputs p s s′ k h in
       let untied : leb c (k .match .hi) ≡ false = lt-leb c (k .match .hi) (omega arith) in
       (strike-in (λ q. q < n) inputs p s s′ k h, subst (λ u. u .tied c ≡ false) (sym (k .is)) (rw (f, untied) (and-false (ltb (k .match .lo) c))))
+
+-- Ties last: where the cut is free at the end, it was free throughout.
+abbrev pub SoftEnd : ℕ → Ending → Type 0
+SoftEnd cut (accepted s) = s .tied cut ≡ false
+SoftEnd cut (stopped n) = ⊥
+
+soft-free : (cut : ℕ) (s : State) (z : Ending) → (s .tied cut ≡ true → EndKeeps (λ u. u .tied cut ≡ true) z) → SoftEnd cut z → s .tied cut ≡ false
+soft-free cut s (accepted w) h c = untied (s .tied cut) (w .tied cut) h c
+soft-free cut s (stopped n) h c = absurd c
+
+module _ (inputs : Inputs) (cut : ℕ) where
+  pub steps-free : (x : Entry) {i : ℕ} {s : State} {z : Ending} → Steps inputs x i s z → SoftEnd cut z → s .tied cut ≡ false
+  steps-free x {i} {s} {z} p = soft-free cut s z (steps-keep inputs (λ u. u .tied cut ≡ true) (strike-tied inputs cut) x p)
+
+  pub back-free : (x : Entry) (i : ℕ) (s : State) → SoftEnd cut (backPass inputs x i s) → s .tied cut ≡ false
+  back-free x i s = soft-free cut s (backPass inputs x i s) (back-keeps inputs (λ u. u .tied cut ≡ true) (strike-tied inputs cut) x i s)
+
+  pub runs-free : (plan : List Entry) (s : State) (z : Ending) → Runs inputs plan s z → SoftEnd cut z → s .tied cut ≡ false
+  runs-free plan s z p = soft-free cut s z (runs-keep inputs (λ u. u .tied cut ≡ true) (strike-tied inputs cut) plan s z p)
