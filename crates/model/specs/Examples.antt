@@ -1,15 +1,15 @@
--- Worked examples. Glyphs: f = 1, i = 2, a mark m = 3, the ligature fi = 4, x = 5. The statements are about the definitions alone.
+-- Worked examples. Glyphs: f = 1, i = 2, a mark m = 3, the ligature fi = 4, x = 5.
 use mathlib.Core.Path.{_≡_}
-use mathlib.Core.Bool.{Bool, true, false, cond, _&&_}
+use mathlib.Core.Bool.{true, false, cond, _&&_}
 use mathlib.Core.List.{List, [], _∷_, _++_, map}
 use Prim.Native.Nat.{ℕ}
 use lib.Dec.{ltb, eqb}
-use lib.ListN.{replicate, getD, drop}
+use lib.ListN.{replicate, getD}
 use Rattle.std.specs.shelf.Lists.{leading}
 use Rattle.font.specs.Font.{Font}
 use Rattle.model.specs.declared.Glyph.{Glyph}
 use Rattle.model.specs.Lookups.{LookupRecord, Action, put, join, nest, Candidate, Lookup, passesOver}
-use Rattle.model.specs.Shaping.{Entry, Inputs, Shaped, Outcome, refused, shaped, Shapes}
+use Rattle.model.specs.Shaping.{Inputs, refused, shaped, Shapes}
 
 -- The font: a character's glyph is its number, but that of character 20 is x. Bases are 11, ligatures 12, marks 3, 13 (mark class 1, in mark set 6) and 14 (mark class 2, in no set).
 abbrev pub font : Font
@@ -55,7 +55,7 @@ Gives ks text run marks hits = Shapes (inputs ks 10 10) text (shaped (record { r
 abbrev pub ligature : (flag : ℕ) → List Lookup
 ligature flag = forward flag 1 (rule [] (2 ∷ []) [] (join 4) ∷ []) ∷ []
 
--- i → x, as the second lookup behind another
+-- i → x, to stand behind a lookup that runs it by a record
 abbrev pub toX : List Lookup
 toX = forward 0 2 (rule [] [] [] (put (5 ∷ [])) ∷ []) ∷ []
 

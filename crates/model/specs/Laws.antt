@@ -60,7 +60,7 @@ CutInTwo =
     (inputs : Inputs) (t u : List ℕ) (w : Shaped) → Shapes inputs (t ++ u) (shaped w) → Free (w .marks) (length t)
     → (l : Shaped) × (r : Shaped) × Shapes inputs t (shaped l) × Shapes inputs u (shaped r) × (w ≡ joined (length t) l r)
 
--- Places to cut at, from `from` to `to`: in rising order, and each free.
+-- Places to cut at, from `from` to `to`: in rising order, and each free. (One may stand twice; the piece between is then empty.)
 abbrev pub Cuts : (marks : List ℕ) → (from to : ℕ) → List ℕ → Type 0
 Cuts marks from to [] = Unit {0}
 Cuts marks from to (c ∷ cs) = (from ≤ c) × (c ≤ to) × Free marks c × Cuts marks c to cs

@@ -46,8 +46,8 @@ pub data Attempt : Type 0 where
   barred : (number : ℕ) → Attempt
   hit : State → («end» : ℕ) → List Edit → Attempt
 
--- Something for each of them.
-abbrev pub answer : {A : Type 0} → Attempt → (missed : A) → (refused : ℕ → A) → (struck : State → ℕ → List Edit → A) → A
+-- What follows an attempt, by what it came to.
+abbrev pub answer : {A : Type 0} → Attempt → (missed : A) → (refused : (number : ℕ) → A) → (struck : State → («end» : ℕ) → List Edit → A) → A
 answer miss m r h = m
 answer (barred n) m r h = r n
 answer (hit s e es) m r h = h s e es
