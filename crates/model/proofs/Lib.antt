@@ -1,20 +1,20 @@
-mod Examples
-mod Seek
-mod Choose
-mod Shift
-mod Change
-mod Frames
-mod Chain
-mod Keeps
-mod Embed
-mod Steps
-mod Plans
-mod Passes
-mod Cut
-mod Total
-mod Rises
-mod Marks
-mod Outcomes
-mod Pieces
-mod Sums
-mod Lines
+pub mod Examples
+pub mod Seek
+pub mod Choose
+pub mod Shift
+pub mod Change
+pub mod Frames
+pub mod Chain
+pub mod Keeps
+pub mod Embed
+pub mod Steps
+pub mod Plans
+pub mod Passes
+pub mod Cut
+pub mod Total
+pub mod Rises
+pub mod Marks
+pub mod Outcomes
+pub mod Pieces
+pub mod Sums
+pub mod Lines
