@@ -131,7 +131,11 @@ pub record FurtherExamples : Type 0 where
   pub ligatureOverMark : Gives (forward 8 4 (rule [] (2 ∷ []) [] (join 8) ∷ []) ∷ []) (4 ∷ 3 ∷ 2 ∷ 5 ∷ []) (8 ∶ 0 ∷ 3 ∶ 0 ∷ 5 ∶ 3 ∷ []) (0 ∷ 2 ∷ 2 ∷ 0 ∷ []) 1
   -- clusters merge up to the last component's: f i m i → 4 m
   pub mergesToTheLast : Gives (forward 8 1 (rule [] (2 ∷ 2 ∷ []) [] (join 4) ∷ []) ∷ []) (1 ∷ 2 ∷ 3 ∷ 2 ∷ []) (4 ∶ 0 ∷ 3 ∶ 0 ∷ []) (0 ∷ 2 ∷ 2 ∷ 2 ∷ []) 1
+  -- the last component's cluster merges too, where another glyph has it: i becomes i i, and f joins the first of them
+  pub mergesTheLastCluster : Gives (forward 0 1 (rule [] (2 ∷ []) [] (nest (1 runs 1 ∷ 0 runs 2 ∷ [])) ∷ []) ∷ forward 0 2 (rule [] [] [] (put (2 ∷ 2 ∷ [])) ∷ []) ∷ ligature 0) (1 ∷ 2 ∷ []) (4 ∶ 0 ∷ 2 ∶ 0 ∷ []) (0 ∷ 2 ∷ []) 3
   -- RECORDS
+  -- a ligature stands where its first component stood: of f m i the outer match has f and i in its list, m i becomes 8, i leaves the list, and index 1 is past it
+  pub standsAtTheFirst : Gives (forward 8 1 (rule [] (2 ∷ []) [] (nest (0 runs 1 ∷ 1 runs 3 ∷ [])) ∷ []) ∷ forward 0 1 (rule [] (3 ∷ []) [] (nest (1 runs 2 ∷ [])) ∷ []) ∷ forward 0 3 (rule [] (2 ∷ []) [] (join 8) ∷ []) ∷ forward 0 8 (rule [] [] [] (put (9 ∷ [])) ∷ []) ∷ []) (1 ∷ 3 ∷ 2 ∷ []) (1 ∶ 0 ∷ 8 ∶ 1 ∷ []) (0 ∷ 1 ∷ 2 ∷ []) 3
   -- a record that grows the list of positions: f becomes f f, index 1 is then the second f, and index 2 is i
   pub growsPositions : Gives (overFix (0 runs 1 ∷ 1 runs 2 ∷ 2 runs 3 ∷ []) (forward 0 1 (rule [] [] [] (put (1 ∷ 1 ∷ [])) ∷ []) ∷ forward 0 1 (rule [] [] [] (put (7 ∷ [])) ∷ []) ∷ i→8 ∷ [])) (1 ∷ 2 ∷ 5 ∷ []) (1 ∶ 0 ∷ 7 ∶ 0 ∷ 8 ∶ 1 ∷ 5 ∶ 2 ∷ []) (0 ∷ 1 ∷ 1 ∷ []) 4
   -- one that removes an input glyph: the ligature takes i out of the list, index 1 is then x, and index 2 is past the list

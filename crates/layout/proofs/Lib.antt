@@ -1,0 +1,5 @@
+mod Covers
+mod Firsts
+mod Order
+mod Past
+mod Search

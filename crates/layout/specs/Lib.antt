@@ -1,0 +1,5 @@
+pub mod Bytes
+pub mod Coverages
+pub mod Faults
+pub mod Ranges
+pub mod Told
