@@ -1,5 +1,5 @@
 -- What a source means under a layer of stand-in characters.
-use Rattle.std.specs.Prelude.{ℕ, cond, List, [], take, Some, None, Option, ◌==◌, nat_eq}
+use Rattle.std.specs.Prelude.{ℕ, cond, List, take, Some, None, Option, ◌==◌, nat_eq}
 use Rattle.font.specs.declared.pairs.Pair.{Pair}
 use Rattle.font.specs.declared.pairs.PairTable.{PairTable}
 use Rattle.font.specs.Font.{Font}

@@ -1,4 +1,6 @@
 // What shaping asks of a font, and layers over any source of the answers.
+#![tactic(auto)]
+
 pub mod pairs;
 pub mod refusal;
 pub mod search;

@@ -9,11 +9,10 @@ use Rattle.std.proofs.lemmas.Bool.{cases_lt, le-leb, le-ltb, lt-leb, lt-ltb}
 use Rattle.model.specs.declared.Glyph.{Glyph}
 use Rattle.font.specs.Font.{Font}
 use Rattle.model.specs.Edits.{at_cluster}
-use Rattle.model.specs.Shaping.{Ending, Entry, Inputs, Pass, Runs, State, Sweeps, accepted, back_pass, hits, laid, start}
+use Rattle.model.specs.Shaping.{Ending, Entry, Inputs, Pass, Runs, State, Sweeps, accepted, back_pass, laid, start}
 use Rattle.model.specs.Laws.{raise}
 use Rattle.model.proofs.Seek.{Clusters}
 use Rattle.model.proofs.Choose.{Above, Below}
-use Rattle.model.proofs.Change.{whole}
 use Rattle.model.proofs.Embed.{embed}
 use Rattle.model.proofs.Steps.{Steps, accepted-not, accepted-one, from-steps, last, next, over, step, to-steps}
 use Rattle.model.proofs.Plans.{SoftEnd, runs-free}

@@ -12,7 +12,7 @@ use Rattle.std.proofs.lemmas.Bool.{le-leb, leb-false, leb-true, lt-ltb, ltb-fals
 use Rattle.model.specs.declared.Glyph.{Glyph}
 use Rattle.model.specs.Lookups.{Action, Candidate, Lookup, LookupRecord, Match, Met, choose, join, nest, passes_over, put}
 use Rattle.model.specs.Edits.{Edit, Frame, edits, frame_at, told}
-use Rattle.model.specs.Shaping.{Attempt, Inputs, State, Try, answer, applied, at_index, attempt, barred, finish, hit, hits, miss, records, struck, tie, try_on}
+use Rattle.model.specs.Shaping.{Attempt, Inputs, State, Try, answer, applied, at_index, attempt, barred, finish, hit, miss, records, struck, tie, try_on}
 use Rattle.model.specs.Laws.{raise}
 use Rattle.model.proofs.Seek.{Clusters, Good, raise_met}
 use Rattle.model.proofs.Choose.{Above, Below, Cross, Crosses, choose-same, raise_match}

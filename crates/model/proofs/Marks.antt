@@ -8,8 +8,6 @@ use Rattle.model.specs.Shaping.{State, has, marks}
 use Rattle.model.specs.Laws.{raise}
 use Rattle.model.proofs.Seek.{Clusters}
 use Rattle.model.proofs.Shift.{eqb-shift}
-use Rattle.model.proofs.Chain.{more}
-use Rattle.model.proofs.Steps.{next}
 use Rattle.model.proofs.Cut.{beside}
 
 abbrev mark : State → ℕ → ℕ

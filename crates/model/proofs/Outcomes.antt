@@ -3,7 +3,7 @@ use Rattle.std.proofs.Common.{◌≡◌, ℕ, ◌<◌, ◌≤◌, true, false, �
 use Rattle.std.specs.List.{AllByRecursion as All}
 use Rattle.std.proofs.lemmas.Bool.{cases_lt}
 use Rattle.model.specs.Edits.{Edit}
-use Rattle.model.specs.Shaping.{Ending, Inputs, Outcome, Runs, Shaped, Shapes, State, accepted, attempt, hit, hits, marks, refused, shaped, start, stopped}
+use Rattle.model.specs.Shaping.{Ending, Inputs, Outcome, Runs, Shaped, Shapes, State, accepted, attempt, hit, marks, refused, shaped, start, stopped}
 use Rattle.model.specs.Laws.{AlwaysAnOutcome, AtMostOneOutcome, ClustersRise, LimitsHold, RefusalsAreTwo, Rising, TiesStay}
 use Rattle.model.proofs.Seek.{Clusters}
 use Rattle.model.proofs.Chain.{Strike}

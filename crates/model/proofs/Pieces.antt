@@ -6,7 +6,7 @@ use Rattle.std.proofs.lemmas.List.{get_or-append_right, length-append, length-ta
 use Rattle.std.proofs.lemmas.Bool.{cases_lt}
 use Rattle.model.specs.declared.Glyph.{Glyph}
 use Rattle.model.specs.Edits.{at_cluster}
-use Rattle.model.specs.Shaping.{Inputs, Runs, Shaped, Shapes, State, accepted, hits, marks, shaped, start}
+use Rattle.model.specs.Shaping.{Inputs, Runs, Shaped, Shapes, State, accepted, marks, shaped, start}
 use Rattle.model.specs.Laws.{Alone, CutInPieces, CutInTwo, Cuts, Free, joined, pieces, raise, together}
 use Rattle.model.proofs.Cut.{beside, raise-none, runs-cut}
 use Rattle.model.proofs.Marks.{marks-beside, marks-free}

@@ -1,9 +1,9 @@
 -- Glyph count, hits and width of a text are the sums of its pieces'.
-use Rattle.std.proofs.Common.{◌≡◌, ℕ, ◌+◌, ◌-◌, List, [], ◌∷◌, ◌++◌, map, length, drop, sum_by, sum, sym, refl, ap, ◌∙◌, ap₂, add_assoc, zero-add}
+use Rattle.std.proofs.Common.{◌≡◌, ℕ, ◌+◌, ◌-◌, List, [], ◌∷◌, ◌++◌, map, length, drop, sum_by, sym, refl, ap, ◌∙◌, ap₂, add_assoc, zero-add}
 use Rattle.std.proofs.lemmas.List.{length-append, length-map}
 use Rattle.std.proofs.lemmas.List.Sums.{sum_by-cons}
 use Rattle.model.specs.declared.Glyph.{Glyph}
-use Rattle.model.specs.Shaping.{Inputs, Shaped, hits, marks, shaped}
+use Rattle.model.specs.Shaping.{Inputs, Shaped, shaped}
 use Rattle.model.specs.Laws.{Alone, SumsOfPieces, pieces, raise, run_width, together}
 use Rattle.model.proofs.Outcomes.{at_most_one}
 use Rattle.model.proofs.Pieces.{cut-in-pieces}

@@ -1,4 +1,6 @@
 // The definitions of shaping, and the laws about them.
+#![tactic(auto)]
+
 ghost use Rattle.model.specs.Examples.{WorkedExamples, FurtherExamples};
 ghost use Rattle.model.specs.Laws.{AtMostOneOutcome, AlwaysAnOutcome, ClustersRise, TiesStay, LimitsHold, RefusalsAreTwo, CutInTwo, CutInPieces, LineAlone, SumsOfPieces};
 
