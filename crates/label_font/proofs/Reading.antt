@@ -1,5 +1,5 @@
 -- Label files: one reading for any bytes, and what the reader's steps are in it.
-use Rattle.std.proofs.Common.{◌≡◌, ℕ, ◌+◌, ◌-◌, ◌*◌, ◌^◌, ◌<◌, ◌≤◌, Bool, true, false, cond, ◌&&◌, eqb, ltb, leb, ◌⊎◌, List, [], ◌∷◌, ◌++◌, length, get_or, drop, Some, None, Ok, Err, Option, Result, sym, refl, ap, ◌∙◌, subst, inl, inr, append_assoc, append-nil, arith, length-append}
+use Rattle.std.proofs.Common.{◌≡◌, ℕ, ◌+◌, ◌-◌, ◌*◌, ◌^◌, ◌<◌, ◌≤◌, Bool, true, false, cond, List, [], ◌∷◌, ◌++◌, length, get_or, drop, None, Ok, Err, Option, Result, sym, refl, ap, ◌∙◌, subst, append_assoc, append-nil, arith, length-append}
 use native.Mathlib.Nat.{pow-le-pow_right}
 use Rattle.std.specs.Str.Parse.{AllDigits, digits_value}
 use Rattle.std.specs.Char.{digit_value}
@@ -14,7 +14,7 @@ use Rattle.label_font.specs.declared.reader.Column.TheVariants.{Character, Glyph
 use Rattle.label_font.specs.declared.reader.Reader.{Reader}
 use Rattle.label_font.specs.LabelFile.{Place, Field, Reads, done, field, fault, start, number, ender, highest, lowest, past_last, after, filled, One-reading}
 use Rattle.label_font.specs.LabelFont.{no_row}
-use Rattle.label_font.specs.LabelReader.{fault_at, has_room, grown, is_field, behind, moved, grows, ends, stepped, first_row, step_answer, ends_at, finish_answer}
+use Rattle.label_font.specs.LabelReader.{fault_at, grown, behind, moved, grows, ends, stepped, first_row, step_answer, ends_at, finish_answer}
 use Rattle.font.specs.Told.{Told, gave, refused, told, told_with}
 
 -- a byte that ends a field is no digit

@@ -1,5 +1,5 @@
 -- Arrays in a structure without faults.
-use Rattle.std.proofs.Common.{◌≡◌, ℕ, zero, suc, ◌+◌, ◌-◌, ◌*◌, ◌≤◌, Bool, true, false, cond, eqb, leb, List, [], ◌∷◌, ◌++◌, length, get_or, Some, None, Option, sym, refl, ap, ◌∙◌, subst, arith}
+use Rattle.std.proofs.Common.{◌≡◌, ℕ, zero, suc, ◌+◌, ◌-◌, ◌*◌, ◌≤◌, false, cond, ◌||◌, eqb, leb, List, [], ◌∷◌, ◌++◌, length, get_or, Some, None, sym, ap, subst, arith}
 use Rattle.std.proofs.lemmas.Bool.{leb-true}
 use Rattle.std.proofs.lemmas.Bool.Decides.{nat_tests}
 use Rattle.layout.specs.declared.array.Kind.{Kind}
@@ -9,16 +9,17 @@ use Rattle.layout.specs.declared.array.Third.{Third}
 use Rattle.layout.specs.declared.array.Third.TheVariants.{Any, StartIndex}
 use Rattle.layout.specs.Bytes.{u16_at}
 use Rattle.layout.specs.Classes.{class_faults, list_faults, range_faults}
-use Rattle.layout.specs.Coverages.{format_faults, kind_of, coverage_faults}
+use Rattle.layout.specs.Coverages.{format_faults, kind_of, coverage_faults, coverage_ranges}
 use Rattle.layout.specs.Faults.{first_in, extent, unless}
-use Rattle.layout.specs.Ranges.{field_size, entry_size, field_count, ranges_from, Rises, last_from, last_of, size, entry_faults, third_faults, order_faults, array_faults}
+use Rattle.layout.specs.Ranges.{field_size, entry_size, field_count, ranges_from, Rises, last_from, last_of, size, entry_faults, order_faults, array_faults}
+use Rattle.layout.proofs.Covers.{two_bytes}
 use Rattle.layout.proofs.Firsts.{none-parts, unless-none}
 use Rattle.layout.proofs.Order.{rises-from}
 
 pub extent-none : (t : List ℕ) (s i w n : ℕ) → first_in (extent t s i w n) ≡ None → i + w * n ≤ length t
 extent-none t s i w n e = leb-true (i + w * n) (length t) (unless-none (leb (i + w * n) (length t)) 1 s _ e)
 
-field-bytes : (kind : Kind) (n : ℕ) → field_size kind * field_count kind * n ≡ entry_size kind * n
+field-bytes : (kind : Kind) (n : ℕ) → field_size kind * (field_count kind * n) ≡ entry_size kind * n
 field-bytes Glyphs n = let e : 2 * (1 * n) ≡ 2 * n = omega arith in e
 field-bytes Records n = let e : 2 * (3 * n) ≡ 6 * n = omega arith in e
 field-bytes Groups n = let e : 4 * (3 * n) ≡ 12 * n = omega arith in e
@@ -43,7 +44,11 @@ same-ranges t a b c = cc
 module _ (t : List ℕ) (s : ℕ) where
   -- the array of a coverage
   pub coverage-array : first_in (coverage_faults t s) ≡ None → first_in (array_faults StartIndex (kind_of (u16_at t s)) t s (s + 4) (u16_at t (s + 2))) ≡ None
-  coverage-array e = (none-parts (extent t s (s + 2) 2 1) _ (none-parts (format_faults t s 2) _ e).1).1
+  coverage-array e =
+      let format = none-parts (unless (eqb (u16_at t s) 1 || eqb (u16_at t s) 2) 2 s s) _ (none-parts (extent t s s 2 1) _ e).1 in
+      let count = none-parts (extent t s (s + 2) 2 1) _ format.1 in
+      subst (λ w. first_in (extent t s (s + 4) w (field_count (kind_of (u16_at t s)) * u16_at t (s + 2)) ++ order_faults StartIndex (kind_of (u16_at t s)) s (s + 4) 0 0 (coverage_ranges t s)) ≡ None)
+      (sym (two_bytes (eqb (u16_at t s) 1))) count.1
 
   -- the faults of a class definition of format 2, and its array
   pub class-ranges-none : first_in (class_faults t s) ≡ None → eqb (u16_at t s) 1 ≡ false → first_in (range_faults t s) ≡ None

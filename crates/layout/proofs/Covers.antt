@@ -1,5 +1,5 @@
 -- A coverage whose tests all pass has no fault.
-use Rattle.std.proofs.Common.{◌≡◌, ℕ, ◌+◌, ◌*◌, Bool, true, false, cond, ◌||◌, eqb, List, ◌++◌, Some, None, sym, refl, ap, ◌∙◌, subst, append_assoc}
+use Rattle.std.proofs.Common.{◌≡◌, ℕ, ◌+◌, ◌*◌, Bool, true, false, cond, ◌||◌, eqb, List, ◌++◌, None, sym, refl, ap, ◌∙◌, subst, append_assoc}
 use Rattle.layout.specs.declared.array.Kind.{Kind}
 use Rattle.layout.specs.declared.array.Kind.TheVariants.{Glyphs, Records}
 use Rattle.layout.specs.declared.array.Third.TheVariants.{StartIndex}
@@ -9,7 +9,7 @@ use Rattle.layout.specs.Faults.{first_in, extent, unless}
 use Rattle.layout.specs.Ranges.{field_size, field_count, ranges_from, order_faults}
 use Rattle.layout.proofs.Firsts.{first-behind}
 
-two_bytes : (b : Bool) → field_size (cond b Glyphs Records) ≡ 2
+pub two_bytes : (b : Bool) → field_size (cond b Glyphs Records) ≡ 2
 two_bytes true = refl
 two_bytes false = refl
 

@@ -1,4 +1,6 @@
 // The parts that font tables share: big-endian fields, faults, coverages and class definitions.
+#![tactic(auto)]
+
 pub mod array;
 pub mod bytes;
 pub mod class;

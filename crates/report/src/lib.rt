@@ -1,4 +1,6 @@
 // What the program says of a text: its glyphs, and the lines that list them.
+#![tactic(auto)]
+
 ghost use Rattle.std.specs.Prelude.{◌≡◌, ◌++◌, map, IfOk, string_bytes, codes, decimal};
 ghost use Rattle.std.specs.List.{flat_map};
 

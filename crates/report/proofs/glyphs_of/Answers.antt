@@ -6,7 +6,7 @@ pub loop-character-preserved : goal.loop-character-preserved
 loop-character-preserved g c =
     let h : c.loop-character.character-index < length c.args.text.now = omega arith in
     let m = map_more (g.S.FontSource.means c.args.source.now).glyph c.args.text.now c.loop-character.character-index 0 h in
-    let p = c.in-ok-push.ensures.items in
+    let p = c.in_ok-push.ensures.items in
     cc
 
 pub returns : goal.returns

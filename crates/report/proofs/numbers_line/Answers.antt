@@ -7,9 +7,9 @@ loop-n-preserved c =
     let h : c.loop-n.n-index < length c.args.numbers.now = omega arith in
     let t = take_more c.args.numbers.now c.loop-n.n-index 0 h in
     let j = flat_map_more (λ n. codes " " ++ decimal n) c.args.title.now (take c.loop-n.n-index c.args.numbers.now) (get_or c.args.numbers.now c.loop-n.n-index 0) in
-    let f = c.in-ok-format.ensures.ok in
-    let v = c.as-str.ensures.value in
-    let p = c.in-ok-push-str.ensures.bytes in
+    let f = c.in_ok-format.ensures.ok in
+    let v = c.as_str.ensures.value in
+    let p = c.in_ok-push_str.ensures.bytes in
     cc
 
 pub returns : goal.returns

@@ -28,10 +28,10 @@ records-inside t i r e h = let a = ap (λ x. x.at) e in let n = ap (λ x. x.coun
 pub returns : goal.returns
 returns c =
     let t = c.args.table.now in
-    let b = c.in-ok-backtrack.ensures in
-    let n = c.in-ok-input.ensures in
-    let a = c.in-ok-lookahead.ensures in
-    let r = c.in-ok-records.ensures in
+    let b = c.in_ok-backtrack.ensures in
+    let n = c.in_ok-input.ensures in
+    let a = c.in_ok-lookahead.ensures in
+    let r = c.in_ok-records.ensures in
     record {
       answer = no-faults t c.args.start c.args.at c.args.entries _ _ _ _ b.array.0 n.array.0 a.array.0 r.array.0 b.answer n.answer a.answer r.answer;
       rule = (

@@ -5,8 +5,8 @@ use Rattle.layout.specs.Faults.{first_in, unless}
 use Rattle.layout.proofs.Firsts.{turn_on, turn-stops}
 use Rattle.gsub.proofs.rules.check_records.Goals as goal
 
-pub returns-then-u16-at-lookups : goal.returns-then-u16-at-lookups
-returns-then-u16-at-lookups c =
+pub returns-then-u16_at-lookups : goal.returns-then-u16_at-lookups
+returns-then-u16_at-lookups c =
     let t = c.args.table.now in
     let e : ltb (u16_at t (c.loop-k.at + 2)) c.args.lookups ≡ false = grind (arith, nat_tests) in
     sym (turn-stops (λ k b. unless (ltb (u16_at t (b + 2)) c.args.lookups) 5 c.args.start (b + 2)) 4 c.loop-k.at c.args.records.count c.loop-k.-k (omega arith) _

@@ -14,8 +14,8 @@ returns c = record {
       let s = c.args.start in
       let array = class-array t s none in
       let i = array-inside Any Records t s (s + 4) (u16_at t (s + 2)) array in
-      let a : c.saturating-add.result ≡ s + 4 = omega arith in
-      let e : ranges_from Records t c.saturating-add.result 0 c.u16-in.result ≡ class_ranges t s = same-ranges {kind = Records} t refl a c.u16-in.ensures in
+      let a : c.saturating_add.result ≡ s + 4 = omega arith in
+      let e : ranges_from Records t c.saturating_add.result 0 c.u16_in.result ≡ class_ranges t s = same-ranges {kind = Records} t refl a c.u16_in.ensures in
       c.find.ensures.range (omega arith) (subst (Rises 0) (sym e) (array-rises Any Records t s (s + 4) (u16_at t (s + 2)) array)) ∙ ap (holding c.args.glyph) e;
   bound = c.find.ensures.bound;
 }

@@ -13,7 +13,7 @@ found c =
     let t = c.args.table.now in
     let array = cmap-array t c.requires in
     let i = array-inside GlyphsTo65535 Groups t 0 16 (u32_at t 12) array in
-    let e : ranges_from Groups t 16 0 c.u32-at.result ≡ groups t = same-ranges {kind = Groups} t refl refl c.u32-at.ensures in
+    let e : ranges_from Groups t 16 0 c.u32_at.result ≡ groups t = same-ranges {kind = Groups} t refl refl c.u32_at.ensures in
     c.find.ensures.range (omega arith) (subst (Rises 0) (sym e) (array-rises GlyphsTo65535 Groups t 0 16 (u32_at t 12) array)) ∙ ap (holding c.args.character) e
 
 pub returns : goal.returns

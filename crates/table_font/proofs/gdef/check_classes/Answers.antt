@@ -8,5 +8,5 @@ use Rattle.table_font.proofs.gdef.check_classes.Goals as goal
 pub returns : goal.returns
 returns c =
     let t = c.args.table.now in
-    let e = c.u16-at-offset.ensures in
+    let e = c.u16_at-offset.ensures in
     c.check.ensures ∙ ap (λ i. first_in (class_faults t i)) e ∙ sym (behind (u16_at t c.args.at) (class_faults t) (λ z. c.if-offset-eq0.false (e ∙ z)))

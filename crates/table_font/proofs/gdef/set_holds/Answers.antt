@@ -11,10 +11,10 @@ returns c =
     let t = c.args.table.now in
     let s = c.args.start in
     let k = c.args.k in
-    let e = c.u32-at-offset.ensures in
+    let e = c.u32_at-offset.ensures in
     let below : k < u16_at t (s + 2) = omega arith in
     let l : ltb k (u16_at t (s + 2)) ≡ true = grind (arith, nat_tests) in
     let none = ap (λ o. first_in (coverage_faults t (s + o))) e ∙ set-none t s k c.requires below in
-    let found = c.index-of.ensures none ∙ ap (λ o. coverage_index t (s + o) c.args.glyph) e in
-    c.is-some.ensures ∙ ap is_some found
+    let found = c.index_of.ensures none ∙ ap (λ o. coverage_index t (s + o) c.args.glyph) e in
+    c.is_some.ensures ∙ ap is_some found
     ∙ ap (λ b. b && is_some (coverage_index t (s + u32_at t (s + 4 + 4 * k)) c.args.glyph)) (sym l)

@@ -1,4 +1,4 @@
-use Rattle.std.proofs.Common.{◌≡◌, suc, ◌-◌, ◌∙◌, arith}
+use Rattle.std.proofs.Common.{◌-◌, arith}
 use Rattle.layout.specs.Ranges.{ranges_of}
 use Rattle.layout.proofs.Arrays.{last-at}
 use Rattle.layout.proofs.Order.{length-ranges}

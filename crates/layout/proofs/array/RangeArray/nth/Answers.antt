@@ -1,5 +1,5 @@
-use Rattle.std.proofs.Common.{◌≡◌, ◌+◌, sym, ap, ◌∙◌, arith, rules}
-use Rattle.layout.specs.Ranges.{entry_size, range_at}
+use Rattle.std.proofs.Common.{◌≡◌, ◌+◌, sym, ap, ◌∙◌, arith}
+use Rattle.layout.specs.Ranges.{range_at}
 use Rattle.layout.proofs.Order.{entry_at}
 use Rattle.layout.proofs.array.RangeArray.nth.Goals as goal
 

@@ -11,4 +11,4 @@ returns c = λ none.
     let t = c.args.self.now.table.now in
     let s = c.args.self.now.start in
     let f : eqb (u16_at t s) 1 ≡ false = grind (arith, nat_tests) in
-    subst (λ b. c.ranged-class.result ≡ cond b (listed_class t s c.args.glyph) (value_in (holding c.args.glyph (class_ranges t s)))) (sym f) (c.ranged-class.ensures (class-ranges-none t s none f))
+    subst (λ b. c.ranged_class.result ≡ cond b (listed_class t s c.args.glyph) (value_in (holding c.args.glyph (class_ranges t s)))) (sym f) (c.ranged_class.ensures (class-ranges-none t s none f))

@@ -1,20 +1,30 @@
-use Rattle.std.proofs.Common.{◌≡◌, ◌+◌, ◌*◌, ap, ◌∙◌, arith}
+use Rattle.std.proofs.Common.{◌≡◌, ◌+◌, ◌*◌, sym, ap, ◌∙◌, subst, arith}
 use Rattle.layout.specs.declared.array.Third.TheVariants.{StartIndex}
 use Rattle.layout.specs.Bytes.{u16_at}
 use Rattle.layout.specs.Coverages.{kind_of}
-use Rattle.layout.specs.Ranges.{entry_size}
-use Rattle.layout.proofs.Arrays.{array-inside, coverage-array, same-ranges}
-use Rattle.layout.proofs.coverage.Coverage.ranges.Goals as goal
+use Rattle.layout.specs.Ranges.{Rises, entry_size, ranges_from}
+use Rattle.layout.proofs.Arrays.{array-inside, array-rises, coverage-array, same-ranges}
+use Rattle.layout.proofs.coverage.Coverage.at.Goals as goal
 
 pub returns : goal.returns
-returns c = record {
-  ranges = λ none.
-      let i = array-inside StartIndex (kind_of (u16_at c.args.self.now.table.now c.args.self.now.start)) c.args.self.now.table.now c.args.self.now.start (c.args.self.now.start + 4) (u16_at c.args.self.now.table.now (c.args.self.now.start + 2)) (coverage-array c.args.self.now.table.now c.args.self.now.start none) in
-      let a : c.saturating-add.result ≡ c.args.self.now.start + 4 = omega arith in
-      same-ranges c.args.self.now.table.now (c.entry-kind.ensures ∙ ap kind_of c.u16-at.ensures) a c.u16-in.ensures;
-  inside = λ none.
-      let i = array-inside StartIndex (kind_of (u16_at c.args.self.now.table.now c.args.self.now.start)) c.args.self.now.table.now c.args.self.now.start (c.args.self.now.start + 4) (u16_at c.args.self.now.table.now (c.args.self.now.start + 2)) (coverage-array c.args.self.now.table.now c.args.self.now.start none) in
-      let a : c.saturating-add.result ≡ c.args.self.now.start + 4 = omega arith in
-      let e : entry_size c.entry-kind.result * c.u16-in.result ≡ entry_size (kind_of (u16_at c.args.self.now.table.now c.args.self.now.start)) * u16_at c.args.self.now.table.now (c.args.self.now.start + 2) = cc in
-      omega arith;
-}
+returns c =
+    let t = c.args.table.now in
+    let s = c.args.start in
+    let kind = kind_of (u16_at t s) in
+    let n = u16_at t (s + 2) in
+    record {
+      ranges = λ none.
+          let i = array-inside StartIndex kind t s (s + 4) n (coverage-array t s none) in
+          let a : c.saturating_add.result ≡ s + 4 = omega arith in
+          same-ranges t (c.kind_of.ensures ∙ ap kind_of c.u16_at.ensures) a c.u16_in.ensures;
+      inside = λ none.
+          let i = array-inside StartIndex kind t s (s + 4) n (coverage-array t s none) in
+          let a : c.saturating_add.result ≡ s + 4 = omega arith in
+          let e : entry_size c.kind_of.result * c.u16_in.result ≡ entry_size kind * n = cc in
+          omega arith;
+      rises = λ none.
+          let i = array-inside StartIndex kind t s (s + 4) n (coverage-array t s none) in
+          let a : c.saturating_add.result ≡ s + 4 = omega arith in
+          let e : ranges_from c.kind_of.result t c.saturating_add.result 0 c.u16_in.result ≡ ranges_from kind t (s + 4) 0 n = same-ranges t (c.kind_of.ensures ∙ ap kind_of c.u16_at.ensures) a c.u16_in.ensures in
+          subst (Rises 0) (sym e) (array-rises StartIndex kind t s (s + 4) n (coverage-array t s none));
+    }
