@@ -1,5 +1,7 @@
 // Runs a table of cases from standard input, a line each: NAME | LABEL FILE | PAIRS | CHARACTERS.
 // In the label file `\t`, `\n` and `\r` are written as such; a pair is `65=66`; characters are asked for by number.
+#![tactic(auto)]
+
 ghost use Rattle.std.specs.Prelude.{◌≡◌};
 ghost use Rattle.font.specs.StandIn.{stand_in_font, pairs_of};
 ghost use Rattle.label_font.specs.LabelFont.{font_of_label, rows_of};

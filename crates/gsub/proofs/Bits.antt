@@ -1,5 +1,5 @@
 -- A number with one bit more.
-use Rattle.std.proofs.Common.{◌≡◌, ℕ, zero, suc, ◌+◌, ◌*◌, ◌/◌, ◌%◌, ◌^◌, min, max, sym, refl, ap, ◌∙◌, pow-suc, arith}
+use Rattle.std.proofs.Common.{◌≡◌, ℕ, zero, suc, ◌*◌, ◌/◌, ◌%◌, ◌^◌, sym, refl, ap, ◌∙◌, pow-suc, arith}
 use lib.Bits.{bit_and, bit_or, and_step, or_step, and_zero_r, or_zero_r}
 
 half-power : (k : ℕ) → 2 ^ suc k / 2 ≡ 2 ^ k

@@ -1,7 +1,7 @@
 -- A lookup without faults, with and without their places.
-use Rattle.std.proofs.Common.{◌≡◌, ℕ, ◌+◌, Bool, true, false, cond, eqb, List, ◌++◌, None, sym, refl, ap, ◌∙◌}
+use Rattle.std.proofs.Common.{◌≡◌, ℕ, ◌+◌, Bool, true, false, cond, eqb, List, None, sym, ◌∙◌}
 use Rattle.layout.specs.Bytes.{u16_at}
-use Rattle.layout.specs.Faults.{Fault, first_in, unless, in_turn, reports}
+use Rattle.layout.specs.Faults.{Fault, first_in, unless, reports}
 use Rattle.layout.proofs.Firsts.{first-behind, none-parts, none-join, none-reports, reports-none, turns-none}
 use Rattle.gsub.specs.Follow.{behind}
 use Rattle.gsub.specs.Tables.{in_lookup, lookup_fields, lookup_subtable, subtable_faults_at, bare_lookup_faults, lookup_faults}

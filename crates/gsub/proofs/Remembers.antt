@@ -1,5 +1,5 @@
 -- What is remembered, and one thing more.
-use Rattle.std.proofs.Common.{◌≡◌, ℕ, ◌^◌, ◌<◌, Bool, true, false, cond, not, eqb, ltb, ◌⊎◌, List, length, get_or, set, replicate, None, sym, refl, ap, ◌∙◌, subst, inl, inr, arith, get_or-set_other, get_or-set_same}
+use Rattle.std.proofs.Common.{◌≡◌, ℕ, ◌^◌, ◌<◌, Bool, true, false, cond, not, eqb, ltb, List, length, get_or, set, replicate, None, sym, refl, ap, ◌∙◌, subst, arith, get_or-set_other, get_or-set_same}
 use lib.Bits.{bit_and, bit_or, and_zero_l}
 use lib.ListN.{get_or-replicate, length-replicate}
 use Rattle.std.proofs.lemmas.List.{get_or_past}

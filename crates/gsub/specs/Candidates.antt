@@ -1,9 +1,9 @@
 -- What a subtable without faults means: for a glyph, and an alternate value, an ordered list of candidates.
-use Rattle.std.specs.Prelude.{ℕ, zero, suc, ◌+◌, ◌-◌, ◌*◌, ◌%◌, Bool, true, false, cond, ◌&&◌, List, [], ◌∷◌, ◌++◌, map, is_some, Some, None, Option, ◌==◌, nat_le, nat_lt}
+use Rattle.std.specs.Prelude.{ℕ, zero, suc, ◌+◌, ◌-◌, ◌*◌, ◌%◌, Bool, true, false, cond, ◌&&◌, List, [], ◌∷◌, map, is_some, Some, None, Option, ◌==◌, nat_le, nat_lt}
 use Rattle.layout.specs.Bytes.{u16_at}
 use Rattle.layout.specs.Classes.{class_behind}
 use Rattle.layout.specs.Coverages.{coverage_index}
-use Rattle.model.specs.Lookups.{LookupRecord, Action, put, join, nest, Candidate}
+use Rattle.model.specs.Lookups.{LookupRecord, put, join, nest, Candidate}
 use Rattle.gsub.specs.Forms.{Form, delta, single, multiple, alternate, ligature, glyph_rules, class_rules, coverage_rule, reverse, form_of}
 use Rattle.gsub.specs.declared.arrays.Array.{Array}
 use Rattle.gsub.specs.declared.rules.RuleArrays.{RuleArrays}

@@ -1,5 +1,5 @@
 -- What a GSUB table without faults means: its lookups, by number.
-use Rattle.std.specs.Prelude.{ℕ, zero, suc, ◌+◌, ◌*◌, cond, List, [], ◌∷◌, ◌++◌, ◌==◌}
+use Rattle.std.specs.Prelude.{ℕ, ◌+◌, ◌*◌, cond, List, [], ◌∷◌, ◌++◌, ◌==◌}
 use Rattle.layout.specs.Bytes.{u16_at, u32_at}
 use Rattle.model.specs.Lookups.{Candidate, Lookup}
 use Rattle.gsub.specs.Candidates.{fields, subtable_candidates}

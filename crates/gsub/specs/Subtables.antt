@@ -1,12 +1,12 @@
 -- The faults of a subtable, by its type and format: format, counts and extents, lookup numbers, then what its offsets lead to.
-use Rattle.std.specs.Prelude.{ℕ, ◌+◌, ◌-◌, ◌*◌, Bool, true, false, List, [], ◌∷◌, ◌++◌, Some, None, Option, nat_le}
+use Rattle.std.specs.Prelude.{ℕ, ◌+◌, ◌*◌, Bool, true, false, List, ◌++◌, Some, None, Option, nat_le}
 use Rattle.layout.specs.Bytes.{u16_at}
 use Rattle.layout.specs.Classes.{class_faults}
 use Rattle.layout.specs.Coverages.{coverage_faults, coverage_ranges}
 use Rattle.layout.specs.Faults.{Fault, unless, extent}
 use Rattle.layout.specs.Ranges.{size}
 use Rattle.gsub.specs.Forms.{Form, delta, single, multiple, alternate, ligature, glyph_rules, class_rules, coverage_rule, reverse, form_of}
-use Rattle.gsub.specs.Follow.{Faults, count_faults, behind, each_behind, list_faults}
+use Rattle.gsub.specs.Follow.{Faults, behind, each_behind, list_faults}
 use Rattle.gsub.specs.declared.arrays.Array.{Array}
 use Rattle.gsub.specs.declared.rules.RuleArrays.{RuleArrays}
 use Rattle.gsub.specs.declared.arrays.Entries.TheVariants.{All, ButFirst}

@@ -1,5 +1,5 @@
 -- The faults of a GSUB table: its length, the header, the lookup list, and each lookup with its subtables, in the order of a walk.
-use Rattle.std.specs.Prelude.{ℕ, ◌+◌, Bool, true, false, cond, not, ◌&&◌, ◌||◌, List, ◌++◌, ◌==◌, bit_and, nat_le}
+use Rattle.std.specs.Prelude.{ℕ, ◌+◌, Bool, false, cond, not, ◌&&◌, ◌||◌, List, ◌++◌, ◌==◌, bit_and, nat_le}
 use Rattle.layout.specs.declared.fault.Place.{Place}
 use Rattle.layout.specs.declared.fault.Report.{Report}
 use Rattle.layout.specs.declared.fault.TableName.TheVariants.{Gsub}

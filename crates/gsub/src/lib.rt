@@ -1,4 +1,6 @@
 // GSUB: the check of a table, and what it means.
+#![tactic(auto)]
+
 mod arrays;
 pub mod check;
 mod forms;

@@ -1,5 +1,7 @@
 // Runs a table of cases from standard input, a line each: NAME | WORDS | LENGTH | START | GLYPHS.
 // The table is the words, 16 bits each, cut to a length in bytes; a coverage is checked at the start, and glyphs are asked for.
+#![tactic(auto)]
+
 use layout::coverage::Coverage;
 use std::alloc::{AllocError, Global};
 use std::io;

@@ -1,4 +1,6 @@
 // A font read from a cmap subtable, a GDEF table and hmtx.
+#![tactic(auto)]
+
 pub mod cmap;
 pub mod gdef;
 pub mod hmtx;

@@ -1,4 +1,4 @@
-use Rattle.std.proofs.Common.{◌≡◌, ◌+◌, None, sym, ap, ◌∙◌, subst}
+use Rattle.std.proofs.Common.{◌≡◌, ◌+◌, None, subst}
 use Rattle.layout.specs.Bytes.{u16_at}
 use Rattle.layout.specs.Faults.{first_in, in_turn, reports}
 use Rattle.layout.proofs.Firsts.{none-join}

@@ -1,4 +1,4 @@
-use Rattle.std.proofs.Common.{◌≡◌, sym, subst, rules}
+use Rattle.std.proofs.Common.{sym, subst, rules}
 use Rattle.gsub.specs.Seen.{Sound}
 use Rattle.gsub.proofs.Remembers.{sound_none}
 use Rattle.gsub.proofs.lookups.check_table.Goals as goal

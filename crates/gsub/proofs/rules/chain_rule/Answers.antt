@@ -1,4 +1,4 @@
-use Rattle.std.proofs.Common.{◌≡◌, ℕ, ◌+◌, ◌*◌, ◌≤◌, List, length, None, ap, ◌∙◌, subst, arith}
+use Rattle.std.proofs.Common.{◌≡◌, ℕ, ◌+◌, ◌*◌, ◌≤◌, List, length, None, ap, arith}
 use Rattle.layout.specs.Bytes.{u16_at}
 use Rattle.layout.specs.Faults.{first_in}
 use Rattle.layout.proofs.Firsts.{none-join}

@@ -1,4 +1,4 @@
-use Rattle.std.proofs.Common.{◌≡◌, true, not, eqb, get_or, sym, ap, ◌∙◌, subst}
+use Rattle.std.proofs.Common.{◌≡◌, true, not, eqb, get_or, subst}
 use lib.Bits.{bit_and}
 use Rattle.gsub.proofs.Remembers.{sound-at}
 use Rattle.gsub.proofs.seen.is_remembered.Goals as goal

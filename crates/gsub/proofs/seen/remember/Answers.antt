@@ -1,4 +1,4 @@
-use Rattle.std.proofs.Common.{◌≡◌, get_or, set, sym, subst}
+use Rattle.std.proofs.Common.{get_or, set, sym, subst}
 use lib.Bits.{bit_or}
 use Rattle.gsub.specs.Seen.{Sound}
 use Rattle.gsub.proofs.Remembers.{sound_more}
