@@ -1,6 +1,8 @@
 // Runs a table of cases from standard input, a line each: NAME | WORDS | LENGTH.
 // The table is the words, 16 bits each, where N*V stands for N words V, cut to a length in bytes; a length that is no number cuts nothing.
 // It is checked as a GSUB table, and the lookups and subtables of an accepted table are counted.
+#![tactic(auto)]
+
 use gsub::check::CheckError;
 use gsub::table::Gsub;
 use layout::fault::{TableFault, TableName};

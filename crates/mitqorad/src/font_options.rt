@@ -52,14 +52,6 @@ fn metrics_of(word: &str) -> Option<u16> {
     u16::try_from(number_of(word)?).ok()
 }
 
-// 1 for standard input, else 0.
-pub fn stdin(path: Option<&str>) -> u32 {
-    match path {
-        Some("-") => 1,
-        _ => 0,
-    }
-}
-
 impl<'a> FontOptions<'a> {
     pub fn new() -> FontOptions<'a> {
         FontOptions {
@@ -106,9 +98,9 @@ impl<'a> FontOptions<'a> {
         }
     }
 
-    // How many of the font's files are standard input.
-    pub fn stdin_count(&self) -> u32 {
-        stdin(self.label) + stdin(self.cmap) + stdin(self.hmtx) + stdin(self.gdef)
+    // The files of the font that were named.
+    pub fn named(&self) -> [Option<&'a str>; 4] {
+        [self.label, self.cmap, self.hmtx, self.gdef]
     }
 
     // The one font that the options name.

@@ -1,4 +1,6 @@
 // Characters to glyphs, and the check of tables, from the command line.
+#![tactic(auto)]
+
 mod failure;
 mod font_options;
 mod fonts;
@@ -14,6 +16,7 @@ use font::source::{MeasuredSource, run_width};
 use font::stand_in::StandIn;
 use gsub::table::Gsub;
 use std::env;
+use std::process::ExitCode;
 use table_font::source::check_gdef_table;
 
 const HELP: &str = "mitqorad: lines of shaped text whose breaks are proved safe
@@ -158,12 +161,12 @@ fn run(rt: &HostRuntime) -> Result<(), Failure> {
     }
 }
 
-fn main(rt: HostRuntime) -> Result<(), Failure> {
+fn main(rt: HostRuntime) -> ExitCode {
     match run(&rt) {
-        Ok(()) => Ok(()),
+        Ok(()) => ExitCode::SUCCESS,
         Err(failure) => {
             let _ = eprintln!(rt; "{failure}");
-            Err(failure)
+            ExitCode::FAILURE
         }
     }
 }

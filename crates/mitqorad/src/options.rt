@@ -1,5 +1,5 @@
 use crate::failure::{Failure, sentence};
-use crate::font_options::{FontFiles, FontOptions, stdin};
+use crate::font_options::{FontFiles, FontOptions};
 use std::alloc::Global;
 
 // What `mitqorad glyphs` is asked for. A file is a path, or `-` for standard input.
@@ -26,18 +26,16 @@ pub struct CheckOptions<'a> {
     pub gdef: Option<&'a str>,
 }
 
-// Standard input can serve as one file only.
-fn wants_stdin_twice(words: &[String]) -> bool {
-    let mut wanted = false;
-    for word in words {
-        if word.as_str() == "-" {
-            if wanted {
-                return true;
-            }
-            wanted = true;
-        }
+fn is_stdin(path: Option<&str>) -> bool {
+    match path {
+        Some(path) => path == "-",
+        None => false,
     }
-    false
+}
+
+// Standard input can serve as one file only.
+fn wants_stdin_twice(paths: &[Option<&str>]) -> bool {
+    paths.iter().filter(|path| is_stdin(**path)).count() > 1
 }
 
 pub fn glyphs_options<'a>(heap: Global, words: &'a [String]) -> Result<GlyphsOptions<'a>, Failure> {
@@ -76,7 +74,8 @@ pub fn glyphs_options<'a>(heap: Global, words: &'a [String]) -> Result<GlyphsOpt
     if let Some(what) = font.awaits() {
         return sentence(heap, "the last option has no ", what);
     }
-    if font.stdin_count() + stdin(stand_in) + stdin(text) > 1 {
+    let [label, cmap, hmtx, gdef] = font.named();
+    if wants_stdin_twice(&[label, cmap, hmtx, gdef, stand_in, text]) {
         return sentence(heap, "standard input can be one file only", "");
     }
     let font = font.files(heap)?;
@@ -118,7 +117,7 @@ pub fn check_options<'a>(heap: Global, words: &'a [String]) -> Result<CheckOptio
     if awaited.is_some() {
         return sentence(heap, "the last option has no value", "");
     }
-    if wants_stdin_twice(words) {
+    if wants_stdin_twice(&[gsub, gdef]) {
         return sentence(heap, "standard input can be one file only", "");
     }
     let Some(gsub) = gsub else {

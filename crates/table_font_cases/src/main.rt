@@ -1,6 +1,8 @@
 // Runs a table of cases from standard input, a line each: NAME | CMAP | GDEF | HMTX | METRICS | LENGTHS | QUESTIONS.
 // A table is its words, 16 bits each. Three lengths in bytes, a word that is no number for a table's own length, cut the tables short or fill them up with zeros.
 // Where the tables are accepted, the questions are answered: glyph:CHARACTER, class:GLYPH, mark:GLYPH, advance:GLYPH, set:NUMBER:GLYPH.
+#![tactic(auto)]
+
 use font::source::{FontSource, MeasuredSource};
 use layout::fault::{TableFault, TableName};
 use std::alloc::{AllocError, Global};
