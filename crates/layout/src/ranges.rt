@@ -4,7 +4,7 @@ ghost use Rattle.layout.specs.Ranges.{Inside, Rises, holding, last_of, ranges_of
 ghost use Rattle.layout.specs.Told.{verdict, byte_verdict};
 
 use crate::array::{Kind, Range, RangeArray, Third};
-use crate::bytes::{Width, check_fields, u16_at, u32_at};
+use crate::bytes::{u16_at, u32_at};
 use crate::fault::{ByteFault, Rule, StructureFault};
 
 impl Kind {
@@ -28,6 +28,17 @@ impl Kind {
         }
     }
 
+    // How many of some bytes whole fields take.
+    fn whole_fields(self, bytes: usize) -> usize
+        ensures whole { result ≡ field_size self * (bytes / field_size self) }
+        ensures bound { result ≤ bytes }
+    {
+        match self {
+            Kind::Glyphs | Kind::Records => bytes / 2 * 2,
+            Kind::Groups => bytes / 4 * 4,
+        }
+    }
+
     // The bytes of k entries.
     fn offset(self, k: u32) -> usize
         ensures size { result ≡ entry_size self * k }
@@ -48,12 +59,14 @@ impl<'a> RangeArray<'a> {
         ensures answer { byte_verdict result ≡ first_in (extent self.now.table.now start self.now.at (field_size self.now.kind) (field_count self.now.kind * self.now.count)) }
         ensures inside { OnOk result (Inside self.now) }
     {
-        let (table, at, count) = (self.table, self.at, self.count as u64);
-        match self.kind {
-            Kind::Glyphs => check_fields(table, start, at, Width::Two, count),
-            Kind::Records => check_fields(table, start, at, Width::Two, 3 * count),
-            Kind::Groups => check_fields(table, start, at, Width::Four, 3 * count),
+        let left = self.table.len().saturating_sub(self.at);
+        if self.at <= self.table.len() && self.kind.offset(self.count) <= left {
+            return Ok(());
         }
+        Err(ByteFault {
+            start,
+            at: self.at + self.kind.whole_fields(left),
+        })
     }
 
     // Entry number k, at a byte.
