@@ -2,7 +2,7 @@
 use Rattle.std.proofs.Common.{◌≡◌, ℕ, suc, ◌+◌, ◌<◌, ◌≤◌, Bool, true, false, cond, ◌&&◌, leb, List, [], ◌∷◌, ◌++◌, map, reverse, length, take, drop, refl, ap, ◌∙◌, ap₂, append_assoc, add-suc, arith}
 use mathlib.Core.List.{map-append, map-map, reverse_aux}
 use lib.Seq.{drop-append-add, drop-append-le, take-append-add, take-append-le}
-use Rattle.std.specs.List.{AllByRecursion as All}
+use Rattle.std.specs.List.{AllByRecursion}
 use Rattle.std.proofs.lemmas.List.{drop-map, length-map, reverse-append, take-map}
 use Rattle.std.proofs.ByRecursion.{All-weaker}
 use Rattle.model.specs.declared.Glyph.{Glyph}
@@ -20,10 +20,10 @@ map-reverse f xs = go xs []
     go [] ys = refl
     go (x ∷ xs) ys = go xs (x ∷ ys)
 
-pub all-reverse : {A : Type 0} (P : A → Type 0) (xs : List A) → All P xs → All P (reverse xs)
+pub all-reverse : {A : Type 0} (P : A → Type 0) (xs : List A) → AllByRecursion P xs → AllByRecursion P (reverse xs)
 all-reverse P xs h = go xs [] h tt
   where
-    go : (xs ys : List _) → All P xs → All P ys → All P (reverse_aux xs ys)
+    go : (xs ys : List _) → AllByRecursion P xs → AllByRecursion P ys → AllByRecursion P (reverse_aux xs ys)
     go [] ys h k = k
     go (x ∷ xs) ys h k = go xs (x ∷ ys) h.1 (h.0, k)
 

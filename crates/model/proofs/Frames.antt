@@ -2,7 +2,7 @@
 use Rattle.std.proofs.Common.{◌≡◌, ℕ, zero, suc, pred, ◌+◌, ◌<◌, ◌≤◌, Bool, true, false, cond, eqb, ltb, leb, List, [], ◌∷◌, ◌++◌, length, take, drop, sym, refl, ◌∙◌, subst, zero-le, arith, length-drop, length-take}
 use mathlib.Core.Option.{some}
 use lib.ListN.{get_elem?}
-use Rattle.std.specs.List.{AllByRecursion as All}
+use Rattle.std.specs.List.{AllByRecursion}
 use Rattle.std.proofs.lemmas.List.{length-append, length-map}
 use Rattle.std.proofs.ByRecursion.{All-append, All-take, All-weaker}
 use Rattle.std.proofs.lemmas.Bool.{eqb-false, leb-true, ltb-false, ltb-true}
@@ -31,7 +31,7 @@ valid-from at (e ∷ es) a b l h = valid-from at es (pred (a + e.into)) b (omega
 
 -- positions from `at` on in a run of a glyphs
 abbrev pub Within : ℕ → ℕ → List ℕ → Type 0
-Within at a = All (λ p. (at ≤ p) × (p < a))
+Within at a = AllByRecursion (λ p. (at ≤ p) × (p < a))
 
 abbrev pub FrameIn : ℕ → ℕ → Frame → Type 0
 FrameIn at a f = Within at a f.positions × (f.«end» ≤ a)

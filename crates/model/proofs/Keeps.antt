@@ -1,7 +1,7 @@
 -- What each change keeps, and so every attempt.
 use Rattle.std.proofs.Common.{◌≡◌, ℕ, suc, ◌<◌, ◌≤◌, Bool, true, false, ◌&&◌, leb, List, [], ◌∷◌, map, reverse, length, take, drop, sym, refl, subst, zero-le, arith}
 use mathlib.Core.Option.{some}
-use Rattle.std.specs.List.{AllByRecursion as All}
+use Rattle.std.specs.List.{AllByRecursion}
 use Rattle.std.proofs.ByRecursion.{All-append, All-drop, All-take}
 use Rattle.std.proofs.lemmas.Bool.{cond_both, or_left}
 use Rattle.model.specs.declared.Glyph.{Glyph}
@@ -13,7 +13,7 @@ use Rattle.model.proofs.Change.{all-reverse}
 use Rattle.model.proofs.Frames.{Valid, valid-from, valid-weaker}
 use Rattle.model.proofs.Chain.{Comes, GoodMatch, Makes, Strike, chain-keeps, choose-good, clusters-any, inside-from, more}
 
-pub without_in : (P : Glyph → Type 0) (ms : List Met) (gs : List Glyph) → All P gs → All P (without ms gs)
+pub without_in : (P : Glyph → Type 0) (ms : List Met) (gs : List Glyph) → AllByRecursion P gs → AllByRecursion P (without ms gs)
 without_in P [] gs k = k
 without_in P (m ∷ ms) gs k = All-append _ (take m.gap gs) _ (All-take _ m.gap gs k) (without_in P ms (drop (suc m.gap) gs) (All-drop _ (suc m.gap) gs k))
 

@@ -1,7 +1,7 @@
 -- A line between two free places is its characters shaped alone.
 use Rattle.std.proofs.Common.{◌≡◌, ℕ, ◌+◌, ◌-◌, ◌<◌, ◌≤◌, List, [], ◌∷◌, ◌++◌, map, length, take, drop, sym, ap, ◌∙◌, subst, zero-le, arith, length-drop}
 use native.Mathlib.Nat.{sub-zero}
-use Rattle.std.specs.List.{AllByRecursion as All}
+use Rattle.std.specs.List.{AllByRecursion}
 use Rattle.std.proofs.lemmas.List.{drop_at, length-take-le, take_at}
 use Rattle.std.proofs.ByRecursion.{All-append, All-weaker}
 use Rattle.model.specs.declared.Glyph.{Glyph}
@@ -19,7 +19,7 @@ module _ (inputs : Inputs) (text : List ℕ) (w : Shaped) (a b : ℕ) (rise : a 
   Line =
       (before : List Glyph) × (line : Shaped) × (after : List Glyph) × Shapes inputs (take (b - a) (drop a text)) (shaped line)
       × (w.run ≡ before ++ (map (raise a) line.run ++ after)) × (line.marks ≡ take (b - a) (drop a w.marks))
-      × All (λ g. g.cluster < a) before × All (λ g. a + g.cluster < b) line.run × All (λ g. b ≤ g.cluster) after
+      × AllByRecursion (λ g. g.cluster < a) before × AllByRecursion (λ g. a + g.cluster < b) line.run × AllByRecursion (λ g. b ≤ g.cluster) after
 
   three : (p q r : Shaped) → Shapes inputs (take a text) (shaped p) → Shapes inputs (take (b - a) (drop a text)) (shaped q) → w ≡ together (0 ∷ a ∷ b ∷ []) (p ∷ q ∷ r ∷ []) → Line
   three p q r hp hq e =

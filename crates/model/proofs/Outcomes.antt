@@ -1,6 +1,6 @@
 -- A text's outcome: one and only one, and what holds of it.
 use Rattle.std.proofs.Common.{◌≡◌, ℕ, ◌<◌, ◌≤◌, true, false, ◌⊎◌, List, length, sym, refl, ap, ◌∙◌, subst, inl, inr, zero-le, arith}
-use Rattle.std.specs.List.{AllByRecursion as All}
+use Rattle.std.specs.List.{AllByRecursion}
 use Rattle.std.proofs.lemmas.Bool.{cases_lt}
 use Rattle.model.specs.Edits.{Edit}
 use Rattle.model.specs.Shaping.{Ending, Inputs, Outcome, Runs, Shaped, Shapes, State, accepted, attempt, hit, marks, refused, shaped, start, stopped}
@@ -66,7 +66,7 @@ module _ (inputs : Inputs) (text : List ℕ) (s : State) (p : Runs inputs inputs
 
 pub clusters-rise : ClustersRise
 clusters-rise inputs text r (s, h, p, e) =
-    subst (λ u. Rising u.run × All (λ g. g.cluster < length text) u.run) (sym e) (state-rising inputs text s p, state-below inputs text s p)
+    subst (λ u. Rising u.run × AllByRecursion (λ g. g.cluster < length text) u.run) (sym e) (state-rising inputs text s p, state-below inputs text s p)
 
 pub limits-hold : LimitsHold
 limits-hold inputs text r (s, h, p, e) =

@@ -1,6 +1,6 @@
 -- The clusters of a run never fall.
 use Rattle.std.proofs.Common.{◌≡◌, ℕ, zero, suc, ◌<◌, ◌≤◌, Bool, true, false, cond, ◌&&◌, leb, ◌⊎◌, List, [], ◌∷◌, ◌++◌, map, take, drop, sym, refl, subst, inl, inr, arith}
-use Rattle.std.specs.List.{AllByRecursion as All}
+use Rattle.std.specs.List.{AllByRecursion}
 use Rattle.std.proofs.ByRecursion.{All-append, All-drop, All-map, All-take, All-weaker}
 use Rattle.std.proofs.lemmas.Bool.{and_cases, and_parts, leb-false, leb-true}
 use Rattle.model.specs.declared.Glyph.{Glyph}
@@ -14,7 +14,7 @@ use Rattle.model.proofs.Chain.{Strike, next-drop}
 use Rattle.model.proofs.Keeps.{at_in, strike-own, without_in}
 
 -- P of what is left of a list
-all-next : {A : Type 0} (P : A → Type 0) (k : ℕ) (xs : List A) → All P (drop k xs) → All P (drop (suc k) xs)
+all-next : {A : Type 0} (P : A → Type 0) (k : ℕ) (xs : List A) → AllByRecursion P (drop k xs) → AllByRecursion P (drop (suc k) xs)
 all-next P zero [] h = tt
 all-next P zero (x ∷ xs) h = h.1
 all-next P (suc k) [] h = tt

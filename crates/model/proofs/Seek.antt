@@ -2,13 +2,13 @@
 use Rattle.std.proofs.Common.{◌≡◌, ℕ, zero, suc, ◌+◌, ◌<◌, Bool, true, false, cond, List, [], ◌∷◌, ◌++◌, map, length, take, drop, refl, ap, arith}
 use mathlib.Core.Option
 use mathlib.Core.Option.{Option, none, some}
-use Rattle.std.specs.List.{AllByRecursion as All}
+use Rattle.std.specs.List.{AllByRecursion}
 use Rattle.model.specs.declared.Glyph.{Glyph}
 use Rattle.model.specs.Lookups.{Met, far, later, seek}
 use Rattle.model.specs.Laws.{raise}
 
 abbrev pub Clusters : (ℕ → Type 0) → List Glyph → Type 0
-Clusters Q = All (λ g. Q g.cluster)
+Clusters Q = AllByRecursion (λ g. Q g.cluster)
 
 abbrev pub raise_met : ℕ → Met → Met
 raise_met a m = record { gap = m.gap; cluster = a + m.cluster }

@@ -1,6 +1,6 @@
 -- What shaping promises, as statements. No law asks anything of the lookups, the plan or the limits.
 use Rattle.std.specs.Prelude.{◌≡◌, ℕ, ◌+◌, ◌-◌, ◌<◌, ◌≤◌, true, ◌⊎◌, List, [], ◌∷◌, ◌++◌, map, length, take, drop, sum_by, slice_index, slice_range}
-use Rattle.std.specs.List.{AllByRecursion as All}
+use Rattle.std.specs.List.{AllByRecursion}
 use Rattle.font.specs.Font.{width}
 use Rattle.model.specs.declared.Glyph.{Glyph}
 use Rattle.model.specs.Edits.{Edit, at_cluster}
@@ -17,11 +17,11 @@ AlwaysAnOutcome = (inputs : Inputs) (text : List ℕ) → (o : Outcome) × Shape
 -- No glyph has a cluster below that of a glyph before it.
 abbrev pub Rising : List Glyph → Type 0
 Rising [] = Unit {0}
-Rising (g ∷ gs) = All (λ h. g.cluster ≤ h.cluster) gs × Rising gs
+Rising (g ∷ gs) = AllByRecursion (λ h. g.cluster ≤ h.cluster) gs × Rising gs
 
 -- The clusters of a shaped run never fall, and lie below the text's length.
 abbrev pub ClustersRise : Type 0
-ClustersRise = (inputs : Inputs) (text : List ℕ) (r : Shaped) → Shapes inputs text (shaped r) → Rising r.run × All (λ g. g.cluster < length text) r.run
+ClustersRise = (inputs : Inputs) (text : List ℕ) (r : Shaped) → Shapes inputs text (shaped r) → Rising r.run × AllByRecursion (λ g. g.cluster < length text) r.run
 
 -- What is tied stays tied, through every attempt and every pass.
 abbrev pub TiesStay : Type 0
@@ -91,7 +91,7 @@ LineAlone =
     (inputs : Inputs) (text : List ℕ) (w : Shaped) (a b : ℕ) → Shapes inputs text (shaped w) → a ≤ b → b ≤ length text → Free w.marks a → Free w.marks b
     → (before : List Glyph) × (line : Shaped) × (after : List Glyph) × Shapes inputs (slice_range text a b) (shaped line)
     × (w.run ≡ before ++ (map (raise a) line.run ++ after)) × (line.marks ≡ slice_range w.marks a b)
-    × All (λ g. g.cluster < a) before × All (λ g. a + g.cluster < b) line.run × All (λ g. b ≤ g.cluster) after
+    × AllByRecursion (λ g. g.cluster < a) before × AllByRecursion (λ g. a + g.cluster < b) line.run × AllByRecursion (λ g. b ≤ g.cluster) after
 
 -- The width of a run, by the advance of each glyph.
 abbrev pub run_width : (advance : ℕ → ℕ) → List Glyph → ℕ
