@@ -1,7 +1,7 @@
 #!/usr/bin/env python3
 """Brings the repository's own definitions and lemmas to Rattle's spelling: words in snake case.
 
-Run once, at the top, right behind the toolchain's own port.py. It turns names in specs, proofs, clauses
+Run at the top, right behind the toolchain's own port.py. It turns names in specs, proofs, clauses
 and pages alone: functions of src/, strings, inputs and outputs keep theirs.
 """
 import glob
@@ -30,6 +30,8 @@ def snake(match):
 
 
 def respell(text):
+    # The one fact that was spelled with a dash.
+    text = re.sub(r"(?<![\w'-])One-reading(?![\w'-])", "OneReading", text)
     return WORD.sub(snake, text)
 
 
@@ -62,6 +64,8 @@ def turn(pattern, change):
 
 def reading(text):
     """A lemma there has the name of the library's word that it is about."""
+    if "digit_value as digitValue" not in text:
+        return respell(text)
     text = text.replace("digit_value as digitValue", "digitValue")
     text = re.sub(r"(?<![\w'-])digit_value(?![\w'-])", "value_of_digit", text)
     return respell(text)

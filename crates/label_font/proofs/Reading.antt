@@ -12,7 +12,7 @@ use Rattle.label_font.specs.declared.table.LabelRow.{LabelRow}
 use Rattle.label_font.specs.declared.reader.Column.{Column}
 use Rattle.label_font.specs.declared.reader.Column.TheVariants.{Character, Glyph, Class, MarkClass, Advance}
 use Rattle.label_font.specs.declared.reader.Reader.{Reader}
-use Rattle.label_font.specs.LabelFile.{Place, Field, Reads, done, field, fault, start, number, ender, highest, lowest, past_last, after, filled, One-reading}
+use Rattle.label_font.specs.LabelFile.{Place, Field, Reads, done, field, fault, start, number, ender, highest, lowest, past_last, after, filled, OneReading}
 use Rattle.label_font.specs.LabelFont.{no_row}
 use Rattle.label_font.specs.LabelReader.{fault_at, grown, behind, moved, grows, ends, stepped, first_row, step_answer, ends_at, finish_answer}
 use Rattle.font.specs.Told.{Told, gave, refused, told, told_with}
@@ -126,7 +126,7 @@ field-not-empty p text rest v e f =
     let n : length text ≡ length f.digits + length (ender p.next ∷ []) = ap length f.spelt ∙ length-append f.digits (ender p.next ∷ []) in
     omega arith
 
-pub one-reading : One-reading
+pub one-reading : OneReading
 one-reading p bytes s t (done e first) (done e' first') = refl
 one-reading p bytes s t (done e first) (field {text = text} {rest = rest} {v = v} e' f r) = absurd (field-not-empty p text rest v (sym e' ∙ e) f)
 one-reading p bytes s t (done e first) (fault n _) = absurd (n e first)

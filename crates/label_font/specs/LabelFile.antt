@@ -88,5 +88,5 @@ pub data Reads : Place → List ℕ → Told (List LabelRow) → Type 0 where
       → Reads p bytes (refused 12 ((length p.above + 1) ∷ number p.next ∷ []))
 
 -- No bytes read as two things.
-abbrev pub One-reading : Type 0
-One-reading = (p : Place) (bytes : List ℕ) (s t : Told (List LabelRow)) → Reads p bytes s → Reads p bytes t → s ≡ t
+abbrev pub OneReading : Type 0
+OneReading = (p : Place) (bytes : List ℕ) (s t : Told (List LabelRow)) → Reads p bytes s → Reads p bytes t → s ≡ t

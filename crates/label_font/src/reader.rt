@@ -1,6 +1,6 @@
 ghost use Rattle.std.specs.Prelude.{◌≡◌, ◌<◌, false, [], ◌∷◌, ◌++◌, is_ok, if◌then◌else◌, Ok, Err};
 ghost use Rattle.label_font.specs.declared.reader.Column.TheVariants.{Character};
-ghost use Rattle.label_font.specs.LabelFile.{One-reading, Reads, start, number};
+ghost use Rattle.label_font.specs.LabelFile.{OneReading, Reads, start, number};
 ghost use Rattle.label_font.specs.LabelFont.{no_row, rows_of, table_of};
 ghost use Rattle.font.specs.Told.{told_with};
 ghost use Rattle.label_font.specs.LabelReader.{finish_answer, fault_at, is_field, has_room, grown, stepped, step_answer};
@@ -208,5 +208,5 @@ impl LabelFont {
 
 // Bytes read as one thing only: the rows of a file or one first fault.
 pub fn one_reading()
-    ensures { One-reading }
+    ensures { OneReading }
 {}
