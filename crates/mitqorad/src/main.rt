@@ -21,31 +21,28 @@ use table_font::source::check_gdef_table;
 
 const HELP: &str = "mitqorad: lines of shaped text whose breaks are proved safe
 
-usage: mitqorad glyphs FONT [--stand-in FILE] [--codes] TEXT
+usage: mitqorad glyphs --label FILE [--stand-in FILE] [--codes] TEXT
+       mitqorad glyphs --cmap FILE --hmtx FILE --metrics N [--gdef FILE]
+                       [--stand-in FILE] [--codes] TEXT
        mitqorad check --gsub FILE [--gdef FILE]
        mitqorad --help | --version
 
 glyphs   prints the glyph of each character of TEXT, and the width of them all
 check    says whether a GSUB table, and then a GDEF table, is accepted, or its first fault
 
-FONT is a label font or the tables of a font:
-
-  --label FILE      lines of character, glyph, class, mark class and advance, decimal and
-                    parted by tabs
-
-  --cmap FILE       a cmap subtable of format 12
-  --hmtx FILE       the hmtx table
-  --metrics N       how many metrics hmtx has, from 0 to 65535
-  --gdef FILE       the GDEF table; without it no glyph has a class
-
-The other options:
-
+  --label FILE      the font: lines of character, glyph, class, mark class and advance,
+                    decimal and parted by tabs
+  --cmap FILE       the font, in place of --label: its cmap subtable of format 12,
+  --hmtx FILE       its hmtx table,
+  --metrics N       how many metrics hmtx has, from 0 to 65535,
+  --gdef FILE       and its GDEF table; without it no glyph has a class
   --stand-in FILE   pairs of characters, decimal and parted by a tab: where the font has
                     no glyph for the first, the second's is taken
   --codes           TEXT is character numbers, decimal, one a line, and not UTF-8
 
-FILE and TEXT are paths, or - for standard input. A refusal, or a fault of a table, goes to
-standard error with its number, and the exit status is then 1.
+FILE and TEXT are paths, or - for standard input. A refusal goes to standard error with
+its number, and the exit status is then 1.
+A fault of a table is told in the same way.
 ";
 
 fn stand_ins(rt: &HostRuntime, path: Option<&str>) -> Result<PairTable, Failure> {
