@@ -1,5 +1,5 @@
 // Runs a table of cases from standard input, a line each: KIND | NAME | WORDS | LENGTH | START | GLYPHS.
-// The table is the words, 16 bits each, cut to a length in bytes; a coverage or a class definition is checked at the start, and glyphs are asked for.
+// The table is the words, 16 bits each, cut to a length in bytes; a coverage or a class definition is checked at the start, and glyphs are asked for; of a coverage the glyphs are counted.
 #![tactic(auto)]
 
 use layout::class::ClassDefinition;

@@ -24,7 +24,7 @@ impl Width {
     }
 
     // How many of some bytes whole fields take.
-    fn whole(self, bytes: usize) -> usize
+    pub(crate) fn whole(self, bytes: usize) -> usize
         ensures whole { result ≡ bytes_of self * (bytes / bytes_of self) }
         ensures bound { result ≤ bytes }
     {

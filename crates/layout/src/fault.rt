@@ -1,5 +1,5 @@
 ghost use Rattle.std.specs.Prelude.{◌≡◌, List};
-ghost use Rattle.layout.specs.Faults.{Fault, first_in, reports, too_long};
+ghost use Rattle.layout.specs.Faults.{Fault, first_in, own_place, reports, too_long};
 ghost use Rattle.layout.specs.Told.{wrapped, told, verdict, placed_verdict, table_verdict, table_told, placed_table, placing};
 
 // A field of the structure at `start` that does not lie wholly in the table.
@@ -103,7 +103,7 @@ impl Place {
 
     // A table's own place.
     pub fn of(table: TableName) -> Place
-        ensures { result ≡ record { table = table; lookup = 65535; subtable = 65535 } }
+        ensures { result ≡ own_place table }
     {
         Place {
             table,

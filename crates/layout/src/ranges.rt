@@ -1,10 +1,11 @@
 ghost use Rattle.std.specs.Prelude.{◌≡◌, ◌+◌, ◌*◌, ◌/◌, ◌^◌, ◌<◌, ◌≤◌, ◌++◌, length, IfSome, OnOk, slice_index_or};
+ghost use Rattle.layout.specs.Bytes.{bytes_of};
 ghost use Rattle.layout.specs.Faults.{first_in, unless, extent};
 ghost use Rattle.layout.specs.Ranges.{Inside, Rises, holding, last_of, ranges_of, entry_faults, field_size, field_count, entry_size, range_at, ranges_from, value_bound, third_faults, order_faults, array_faults};
 ghost use Rattle.layout.specs.Told.{verdict, byte_verdict};
 
 use crate::array::{Kind, Range, RangeArray, Third};
-use crate::bytes::{u16_at, u32_at};
+use crate::bytes::{Width, u16_at, u32_at};
 use crate::fault::{ByteFault, Rule, StructureFault};
 
 impl Kind {
@@ -28,15 +29,21 @@ impl Kind {
         }
     }
 
+    fn width(self) -> Width
+        ensures { bytes_of result ≡ field_size self }
+    {
+        match self {
+            Kind::Glyphs | Kind::Records => Width::Two,
+            Kind::Groups => Width::Four,
+        }
+    }
+
     // How many of some bytes whole fields take.
     fn whole_fields(self, bytes: usize) -> usize
         ensures whole { result ≡ field_size self * (bytes / field_size self) }
         ensures bound { result ≤ bytes }
     {
-        match self {
-            Kind::Glyphs | Kind::Records => bytes / 2 * 2,
-            Kind::Groups => bytes / 4 * 4,
-        }
+        self.width().whole(bytes)
     }
 
     // The bytes of k entries.

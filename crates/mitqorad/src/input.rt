@@ -1,3 +1,9 @@
+ghost use Rattle.std.specs.Prelude.{◌≡◌, ◌≢◌, ℕ, ◌<◌, ◌^◌, ◌⊎◌, List, [], ◌∷◌, ◌++◌, map, IfOk, OnOk, IsUtf8, encode_utf8_all};
+ghost use Rattle.std.specs.Option.{SomeIff};
+ghost use Rattle.std.specs.List.{AllByRecursion};
+ghost use Rattle.std.specs.Str.Lines.{lines};
+ghost use Rattle.std.specs.Str.Parse.{IsNumeral, digits_value};
+
 use crate::failure::Failure;
 use font::pairs::{Pair, PairTable};
 use std::alloc::{AllocError, Global};
@@ -30,7 +36,10 @@ fn read(rt: &HostRuntime, path: &str) -> io::Result<Vec<u8>> {
 }
 
 // A text as people edit it: UTF-8, without the line feed that ends its last line.
-pub fn text_of<'a>(heap: Global, path: &str, bytes: &'a [u8]) -> Result<&'a str, Failure> {
+pub fn text_of<'a>(heap: Global, path: &str, bytes: &'a [u8]) -> Result<&'a str, Failure>
+    ensures utf8 { OnOk result (IsUtf8 bytes.now) }
+    ensures text { IfOk result (λ text. (bytes.now ≡ text.now ++ 10 ∷ []) ⊎ ((bytes.now ≡ text.now) × ((front : List ℕ) → bytes.now ≢ front ++ 10 ∷ []))) }
+{
     match std::str::from_utf8(bytes) {
         Ok(text) => Ok(text.strip_suffix('\n').unwrap_or(text)),
         Err(_) => {
@@ -47,7 +56,9 @@ fn bad_line(heap: Global, path: &str, line: usize, should_be: &str) -> Result<Fa
 }
 
 // The number that a line writes: decimal digits and nothing else.
-pub fn number_of(line: &str) -> Option<u32> {
+pub fn number_of(line: &str) -> Option<u32>
+    ensures { SomeIff result (IsNumeral 10 line.now × (digits_value 10 line.now < 2 ^ 32)) (digits_value 10 line.now) }
+{
     if line.starts_with('+') {
         return None;
     }
@@ -55,7 +66,9 @@ pub fn number_of(line: &str) -> Option<u32> {
 }
 
 // The characters of a text.
-pub fn characters(heap: Global, text: &str) -> Result<Vec<u32>, Failure> {
+pub fn characters(heap: Global, text: &str) -> Result<Vec<u32>, Failure>
+    ensures { IfOk result (λ all. encode_utf8_all all.items ≡ text.now) }
+{
     let mut all = Vec::new(heap);
     for c in text.chars() {
         all.push(c as u32)?;
@@ -64,7 +77,10 @@ pub fn characters(heap: Global, text: &str) -> Result<Vec<u32>, Failure> {
 }
 
 // Character numbers, one a line.
-pub fn numbered(heap: Global, path: &str, text: &str) -> Result<Vec<u32>, Failure> {
+pub fn numbered(heap: Global, path: &str, text: &str) -> Result<Vec<u32>, Failure>
+    ensures numbers { OnOk result (AllByRecursion (IsNumeral 10) (lines text.now)) }
+    ensures values { IfOk result (λ all. all.items ≡ map (digits_value 10) (lines text.now)) }
+{
     let mut all = Vec::new(heap);
     for line in text.lines() {
         let Some(character) = number_of(line) else {
