@@ -1,20 +1,20 @@
 -- Arrays in a structure without faults.
-use Rattle.std.proofs.Common.{◌≡◌, ℕ, zero, suc, ◌+◌, ◌-◌, ◌*◌, ◌≤◌, false, cond, ◌||◌, eqb, leb, List, [], ◌∷◌, ◌++◌, length, get_or, Some, None, sym, ap, subst, arith}
+use Rattle.std.proofs.Common.{◌≡◌, ℕ, zero, suc, ◌+◌, ◌-◌, ◌*◌, ◌<◌, ◌≤◌, false, cond, ◌||◌, eqb, leb, List, [], ◌∷◌, ◌++◌, length, get_or, Some, None, sym, ap, subst, arith}
 use Rattle.std.proofs.lemmas.Bool.{leb-true}
 use Rattle.std.proofs.lemmas.Bool.Decides.{nat_tests}
 use Rattle.layout.specs.declared.array.Kind.{Kind}
 use Rattle.layout.specs.declared.array.Kind.TheVariants.{Glyphs, Records, Groups}
+use Rattle.layout.specs.declared.array.Laid.{Laid}
 use Rattle.layout.specs.declared.array.Range.{Range}
 use Rattle.layout.specs.declared.array.Third.{Third}
 use Rattle.layout.specs.declared.array.Third.TheVariants.{Any, StartIndex}
 use Rattle.layout.specs.Bytes.{u16_at}
 use Rattle.layout.specs.Classes.{class_faults, list_faults, range_faults}
-use Rattle.layout.specs.Coverages.{format_faults, kind_of, coverage_faults, coverage_ranges}
-use Rattle.layout.specs.Faults.{first_in, extent, unless}
+use Rattle.layout.specs.Coverages.{kind_of, coverage_faults}
+use Rattle.layout.specs.Faults.{first_in, extent, unless, format_faults}
 use Rattle.layout.specs.Ranges.{field_size, entry_size, field_count, ranges_from, Rises, last_from, last_of, size, entry_faults, order_faults, array_faults}
-use Rattle.layout.proofs.Covers.{two_bytes}
 use Rattle.layout.proofs.Firsts.{none-parts, unless-none}
-use Rattle.layout.proofs.Order.{rises-from}
+use Rattle.layout.proofs.Order.{rises-from, entry-inside}
 
 pub extent-none : (t : List ℕ) (s i w n : ℕ) → first_in (extent t s i w n) ≡ None → i + w * n ≤ length t
 extent-none t s i w n e = leb-true (i + w * n) (length t) (unless-none (leb (i + w * n) (length t)) 1 s _ e)
@@ -44,11 +44,7 @@ same-ranges t a b c = cc
 module _ (t : List ℕ) (s : ℕ) where
   -- the array of a coverage
   pub coverage-array : first_in (coverage_faults t s) ≡ None → first_in (array_faults StartIndex (kind_of (u16_at t s)) t s (s + 4) (u16_at t (s + 2))) ≡ None
-  coverage-array e =
-      let format = none-parts (unless (eqb (u16_at t s) 1 || eqb (u16_at t s) 2) 2 s s) _ (none-parts (extent t s s 2 1) _ e).1 in
-      let count = none-parts (extent t s (s + 2) 2 1) _ format.1 in
-      subst (λ w. first_in (extent t s (s + 4) w (field_count (kind_of (u16_at t s)) * u16_at t (s + 2)) ++ order_faults StartIndex (kind_of (u16_at t s)) s (s + 4) 0 0 (coverage_ranges t s)) ≡ None)
-      (sym (two_bytes (eqb (u16_at t s) 1))) count.1
+  coverage-array e = (none-parts (extent t s (s + 2) 2 1) _ (none-parts (format_faults t s 2) _ e).1).1
 
   -- the faults of a class definition of format 2, and its array
   pub class-ranges-none : first_in (class_faults t s) ≡ None → eqb (u16_at t s) 1 ≡ false → first_in (range_faults t s) ≡ None
@@ -91,3 +87,10 @@ count-last kind s i (q ∷ rs) r e l =
     let same : last_from q rs ≡ r = cc in
     let n = last-counts kind s i 0 0 q rs e in
     subst (λ x. x.value + (x.last - x.first) + 1 ≡ size (q ∷ rs)) same (omega arith)
+
+-- entry k of an array that lies in its table does so too
+pub entry-laid : (laid : Laid) (k : ℕ) → k < laid.array.count → laid.array.at + entry_size laid.array.kind * k + entry_size laid.array.kind ≤ length laid.array.structure.table.now
+entry-laid laid k h =
+    let e = entry-inside (entry_size laid.array.kind) laid.array.count k h in
+    let i = laid.inside in
+    omega arith

@@ -1,6 +1,7 @@
 -- The first of two lists, one behind the other.
 use Rattle.std.proofs.Common.{◌≡◌, ℕ, zero, suc, ◌+◌, ◌-◌, ◌*◌, ◌<◌, Bool, true, false, List, [], ◌∷◌, ◌++◌, Some, None, sym, refl, ap, ◌∙◌, mul-suc, arith}
-use Rattle.layout.specs.Faults.{Fault, first_in, unless, in_turn, reports}
+use Rattle.layout.specs.declared.fault.Fault.{Fault}
+use Rattle.layout.specs.Faults.{first_in, unless, in_turn, reports}
 use Rattle.layout.specs.declared.fault.Place.{Place}
 
 pub first-behind : {X : Type 0} (xs ys : List X) → first_in xs ≡ None → first_in (xs ++ ys) ≡ first_in ys

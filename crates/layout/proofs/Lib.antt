@@ -1,5 +1,4 @@
 pub mod Arrays
-pub mod Covers
 pub mod Firsts
 pub mod Order
 pub mod Past

@@ -4,8 +4,8 @@ use Rattle.layout.specs.declared.array.Kind.TheVariants.{Records}
 use Rattle.layout.specs.declared.array.Range.{Range}
 use Rattle.layout.specs.declared.array.Third.TheVariants.{Any}
 use Rattle.layout.specs.Bytes.{u16_at}
-use Rattle.layout.specs.Coverages.{format_faults}
-use Rattle.layout.specs.Faults.{Fault, extent}
+use Rattle.layout.specs.declared.fault.Fault.{Fault}
+use Rattle.layout.specs.Faults.{extent, format_faults}
 use Rattle.layout.specs.Ranges.{ranges_from, holding, array_faults}
 
 -- The ranges of format 2: count, and from byte 4 on the entries.

@@ -5,8 +5,9 @@ use Rattle.layout.specs.declared.array.Kind.TheVariants.{Glyphs, Records}
 use Rattle.layout.specs.declared.array.Range.{Range}
 use Rattle.layout.specs.declared.array.Third.TheVariants.{StartIndex}
 use Rattle.layout.specs.Bytes.{u16_at}
-use Rattle.layout.specs.Faults.{Fault, unless, extent}
-use Rattle.layout.specs.Ranges.{field_count, ranges_from, holding, order_faults}
+use Rattle.layout.specs.declared.fault.Fault.{Fault}
+use Rattle.layout.specs.Faults.{extent, format_faults}
+use Rattle.layout.specs.Ranges.{ranges_from, holding, array_faults}
 
 abbrev pub kind_of : (format : ℕ) → Kind
 kind_of f = cond (f == 1) Glyphs Records
@@ -18,11 +19,9 @@ coverage_ranges t s = ranges_from (kind_of (u16_at t s)) t (s + 4) 0 (u16_at t (
 -- Its faults: format, count and the array's extent; then, entry by entry, order and start index.
 abbrev pub coverage_faults : (table : List ℕ) → (s : ℕ) → List Fault
 coverage_faults t s =
-    extent t s s 2 1
-    ++ (unless (u16_at t s == 1 || u16_at t s == 2) 2 s s
+    format_faults t s 2
     ++ (extent t s (s + 2) 2 1
-    ++ (extent t s (s + 4) 2 (field_count (kind_of (u16_at t s)) * u16_at t (s + 2))
-    ++ order_faults StartIndex (kind_of (u16_at t s)) s (s + 4) 0 0 (coverage_ranges t s))))
+    ++ array_faults StartIndex (kind_of (u16_at t s)) t s (s + 4) (u16_at t (s + 2)))
 
 -- The index of a glyph: its range's start index, and how far into the range it is.
 abbrev pub index_in : (glyph : ℕ) → Option Range → Option ℕ
@@ -32,7 +31,3 @@ index_in g (Some r) = Some (r.value + (g - r.first))
 -- The index of a glyph, if the coverage at s has it.
 abbrev pub coverage_index : (table : List ℕ) → (s glyph : ℕ) → Option ℕ
 coverage_index t s g = index_in g (holding g (coverage_ranges t s))
-
--- A structure begins with its format, a number from 1 on.
-abbrev pub format_faults : (table : List ℕ) → (s most : ℕ) → List Fault
-format_faults t s most = extent t s s 2 1 ++ unless (nat_le 1 (u16_at t s) && nat_le (u16_at t s) most) 2 s s

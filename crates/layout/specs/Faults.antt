@@ -1,14 +1,10 @@
 -- The faults of a structure, in the order in which a walk meets them. Only the first is ever told, so what a list says behind it may be nonsense.
-use Rattle.std.specs.Prelude.{ℕ, zero, suc, ◌+◌, ◌-◌, ◌*◌, ◌/◌, Bool, true, false, cond, List, [], ◌∷◌, ◌++◌, map, length, Some, None, Option, ◌==◌, nat_le}
+use Rattle.std.specs.Prelude.{ℕ, zero, suc, ◌+◌, ◌-◌, ◌*◌, ◌/◌, Bool, true, false, cond, ◌&&◌, List, [], ◌∷◌, ◌++◌, map, length, Some, None, Option, ◌==◌, nat_le}
+use Rattle.layout.specs.declared.fault.Fault.{Fault}
 use Rattle.layout.specs.declared.fault.Place.{Place}
 use Rattle.layout.specs.declared.fault.Report.{Report}
 use Rattle.layout.specs.declared.fault.TableName.{TableName}
-
--- The fault's number, where the structure starts, and the byte of its first bad field.
-pub record Fault : Type 0 where
-  pub number : ℕ
-  pub start : ℕ
-  pub byte : ℕ
+use Rattle.layout.specs.Bytes.{u16_at}
 
 -- One fault, unless a test holds.
 abbrev pub unless : Bool → (number start byte : ℕ) → List Fault
@@ -33,13 +29,25 @@ abbrev pub in_turn : {X : Type 0} → (each : (number i : ℕ) → List X) → (
 in_turn each w k i zero = []
 in_turn each w k i (suc n) = each k i ++ in_turn each w (k + 1) (i + w) n
 
--- A structure's faults, told at a place.
+-- A structure begins with its format, a number from 1 on.
+abbrev pub format_faults : (table : List ℕ) → (s most : ℕ) → List Fault
+format_faults t s most = extent t s s 2 1 ++ unless (nat_le 1 (u16_at t s) && nat_le (u16_at t s) most) 2 s s
+
+-- The number of a lookup or a subtable; 65,535 for none.
+abbrev pub number_or_none : Option ℕ → ℕ
+number_or_none None = 65535
+number_or_none (Some k) = k
+
+-- A structure's fault, told at a place; and so its faults.
+abbrev pub report_at : Place → Fault → Report
+report_at p f = record { number = f.number; table = p.table; lookup = number_or_none p.lookup; subtable = number_or_none p.subtable; start = f.start; byte = f.byte }
+
 abbrev pub reports : Place → List Fault → List Report
-reports p = map (λ f. record { number = f.number; place = p; start = f.start; byte = f.byte })
+reports p = map (report_at p)
 
 -- The place of a table itself: no lookup, no subtable.
 abbrev pub own_place : TableName → Place
-own_place name = record { table = name; lookup = 65535; subtable = 65535 }
+own_place name = record { table = name; lookup = None; subtable = None }
 
 -- A table has at most 16,777,215 bytes, which is tested first of all.
 abbrev pub too_long : TableName → (table : List ℕ) → List Report

@@ -7,7 +7,8 @@ use Rattle.layout.specs.declared.array.RangeArray.{RangeArray}
 use Rattle.layout.specs.declared.array.Third.{Third}
 use Rattle.layout.specs.declared.array.Third.TheVariants.{Any, StartIndex, GlyphsTo65535}
 use Rattle.layout.specs.Bytes.{u16_at, u32_at}
-use Rattle.layout.specs.Faults.{Fault, unless, extent}
+use Rattle.layout.specs.declared.fault.Fault.{Fault}
+use Rattle.layout.specs.Faults.{unless, extent}
 
 -- The bytes of a field.
 abbrev pub field_size : Kind → ℕ
@@ -45,11 +46,11 @@ ranges_from kind t i k zero = []
 ranges_from kind t i k (suc n) = range_at kind t i k ∷ ranges_from kind t (i + entry_size kind) (k + 1) n
 
 abbrev pub ranges_of : RangeArray → List Range
-ranges_of array = ranges_from array.kind array.table.now array.at 0 array.count
+ranges_of array = ranges_from array.kind array.structure.table.now array.at 0 array.count
 
 -- The array lies in its table.
 abbrev pub Inside : RangeArray → Type 0
-Inside array = array.at + entry_size array.kind * array.count ≤ length array.table.now
+Inside array = array.at + entry_size array.kind * array.count ≤ length array.structure.table.now
 
 -- The range that holds a number.
 abbrev pub holds : ℕ → Range → Bool

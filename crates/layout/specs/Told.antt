@@ -10,7 +10,8 @@ use Rattle.layout.specs.declared.fault.StructureFault.{StructureFault}
 use Rattle.layout.specs.declared.fault.StructureFault.TheVariants.{PastEnd, Broken}
 use Rattle.layout.specs.declared.fault.TableFault.{TableFault}
 use Rattle.layout.specs.declared.fault.TableFault.TheVariants.{TooLong, Structure}
-use Rattle.layout.specs.Faults.{Fault, own_place}
+use Rattle.layout.specs.declared.fault.Fault.{Fault}
+use Rattle.layout.specs.Faults.{own_place, report_at}
 
 abbrev pub wrapped : ByteFault → StructureFault
 wrapped b = PastEnd b
@@ -29,10 +30,10 @@ told (PastEnd b) = record { number = 1; start = b.start; byte = b.at }
 told (Broken rule start at) = record { number = number_of rule; start = start; byte = at }
 
 abbrev pub placed_told : PlacedFault → Report
-placed_told p = record { number = (told p.fault).number; place = p.place; start = (told p.fault).start; byte = (told p.fault).byte }
+placed_told p = report_at p.place (told p.fault)
 
 abbrev pub table_told : TableFault → Report
-table_told (TooLong name) = record { number = 4; place = own_place name; start = 0; byte = 0 }
+table_told (TooLong name) = report_at (own_place name) (record { number = 4; start = 0; byte = 0 })
 table_told (Structure p) = placed_told p
 
 -- The fault that a check answers, if any.

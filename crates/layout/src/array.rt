@@ -1,3 +1,7 @@
+ghost use Rattle.layout.specs.Ranges.{Inside};
+
+use crate::structure::Structure;
+
 // How an array writes its ranges.
 #[derive(Clone, Copy)]
 pub enum Kind {
@@ -26,11 +30,18 @@ pub struct Range {
     pub value: u32,
 }
 
-// An array of ranges in a table, from a byte on.
+// An array of ranges in a structure, from a byte on.
 #[derive(Clone, Copy)]
 pub struct RangeArray<'a> {
-    pub table: &'a [u8],
+    pub structure: Structure<'a>,
     pub kind: Kind,
     pub at: usize,
     pub count: u32,
+}
+
+// One that was found to lie in its table.
+#[derive(Clone, Copy)]
+pub(crate) struct Laid<'a> {
+    pub(crate) array: RangeArray<'a>,
+    ghost inside: { Inside array },
 }

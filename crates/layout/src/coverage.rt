@@ -1,52 +1,20 @@
-ghost use Rattle.std.specs.Prelude.{◌≡◌, ◌+◌, ◌≤◌, ◌||◌, ◌++◌, length, IfOk, None, ◌==◌};
-ghost use Rattle.layout.specs.Bytes.{u16_at};
-ghost use Rattle.layout.specs.Coverages.{format_faults, kind_of, coverage_ranges, coverage_faults, index_in};
-ghost use Rattle.layout.specs.Faults.{first_in, extent, unless};
-ghost use Rattle.layout.specs.Ranges.{Inside, Rises, ranges_of, holding, size};
+ghost use Rattle.std.specs.Prelude.{◌≡◌, None};
+ghost use Rattle.layout.specs.Coverages.{kind_of, coverage_ranges, coverage_faults, coverage_index};
+ghost use Rattle.layout.specs.Faults.{first_in};
+ghost use Rattle.layout.specs.Ranges.{Inside, Rises, ranges_of, size};
 ghost use Rattle.layout.specs.Told.{verdict};
 
 use crate::array::{Kind, RangeArray, Third};
-use crate::bytes::{u16_at, u16_field, u16_in};
-use crate::fault::{Rule, StructureFault};
+use crate::fault::StructureFault;
+use crate::structure::Structure;
 
-// A coverage of a table.
+// The coverage that a structure is. Only one that was checked without a fault means something.
 #[derive(Clone, Copy)]
 pub struct Coverage<'a> {
-    pub(crate) ranges: RangeArray<'a>,
+    pub structure: Structure<'a>,
 }
 
-// The kind of a coverage's entries, by its format.
-fn entry_kind(table: &[u8], start: usize) -> Result<Kind, StructureFault>
-    ensures answer { verdict result ≡ first_in (extent table.now start start 2 1 ++ unless (u16_at table.now start == 1 || u16_at table.now start == 2) 2 start start) }
-    ensures kind { IfOk result (λ k. (k ≡ kind_of (u16_at table.now start)) × (start + 2 ≤ length table.now)) }
-{
-    match u16_field(table, start, start)? {
-        1 => Ok(Kind::Glyphs),
-        2 => Ok(Kind::Records),
-        _ => Err(StructureFault::Broken {
-            rule: Rule::Unknown,
-            start,
-            at: start,
-        }),
-    }
-}
-
-// The format that a structure begins with, from 1 to some number.
-pub fn format_field(table: &[u8], start: usize, most: u16) -> Result<u16, StructureFault>
-    ensures answer { verdict result ≡ first_in (format_faults table.now start most) }
-    ensures format { IfOk result (λ f. (f ≡ u16_at table.now start) × (start + 2 ≤ length table.now) × (1 ≤ f) × (f ≤ most)) }
-{
-    let format = u16_field(table, start, start)?;
-    if format < 1 || format > most {
-        return Err(StructureFault::Broken {
-            rule: Rule::Unknown,
-            start,
-            at: start,
-        });
-    }
-    Ok(format)
-}
-
+// How a coverage of a format writes its ranges.
 fn kind_of(format: u16) -> Kind
     ensures { result ≡ kind_of format }
 {
@@ -57,60 +25,53 @@ fn kind_of(format: u16) -> Kind
     }
 }
 
-// How many glyphs the coverage at `start` has: the last one's index and one.
-pub fn glyph_count(table: &[u8], start: usize) -> usize
-    ensures { first_in (coverage_faults table.now start) ≡ None → result ≡ size (coverage_ranges table.now start) }
-{
-    match Coverage::at(table, start).ranges.last() {
-        Some(range) => range.value as usize + range.last.saturating_sub(range.first) as usize + 1,
-        None => 0,
-    }
-}
-
 impl<'a> Coverage<'a> {
-    // The coverage at a byte of a table, or its first fault.
-    pub fn check(table: &'a [u8], start: usize) -> Result<Coverage<'a>, StructureFault>
-        ensures answer { verdict result ≡ first_in (coverage_faults table.now start) }
-        ensures checked { IfOk result (λ c. (ranges_of c.ranges ≡ coverage_ranges table.now start) × Inside c.ranges × Rises 0 (ranges_of c.ranges)) }
+    // The first fault of the coverage, if it has one.
+    pub fn check(&self) -> Result<(), StructureFault>
+        ensures { verdict result ≡ first_in (coverage_faults self.now.structure.table.now self.now.structure.start) }
     {
-        let kind = entry_kind(table, start)?;
-        let count = u16_field(table, start, start + 2)? as u32;
+        let structure = self.structure;
         let ranges = RangeArray {
-            table,
-            kind,
-            at: start + 4,
-            count,
+            structure,
+            kind: kind_of(structure.format(2)?),
+            count: u32::from(structure.field::<u16>(structure.start + 2)?),
+            at: structure.start + 4,
         };
-        ranges.check_extent(start)?;
-        ranges.check_order(Third::StartIndex, start)?;
-        Ok(Coverage { ranges })
+        ranges.check(Third::StartIndex)
     }
 
-    // The coverage at a byte of a table that was checked. With a fault it means nothing.
-    pub fn at(table: &'a [u8], start: usize) -> Coverage<'a>
-        ensures ranges { first_in (coverage_faults table.now start) ≡ None → ranges_of result.ranges ≡ coverage_ranges table.now start }
-        ensures inside { first_in (coverage_faults table.now start) ≡ None → Inside result.ranges }
-        ensures rises { first_in (coverage_faults table.now start) ≡ None → Rises 0 (ranges_of result.ranges) }
+    // Its ranges, which rise.
+    pub fn ranges(&self) -> RangeArray<'a>
+        ensures ranges { first_in (coverage_faults self.now.structure.table.now self.now.structure.start) ≡ None → ranges_of result ≡ coverage_ranges self.now.structure.table.now self.now.structure.start }
+        ensures inside { first_in (coverage_faults self.now.structure.table.now self.now.structure.start) ≡ None → Inside result }
+        ensures rises { first_in (coverage_faults self.now.structure.table.now self.now.structure.start) ≡ None → Rises 0 (ranges_of result) }
     {
-        Coverage {
-            ranges: RangeArray {
-                table,
-                kind: kind_of(u16_at(table, start)),
-                at: start.saturating_add(4),
-                count: u16_in(table, start, 2) as u32,
-            },
+        RangeArray {
+            structure: self.structure,
+            kind: kind_of(self.structure.u16_in(0)),
+            at: self.structure.start.saturating_add(4),
+            count: u32::from(self.structure.u16_in(2)),
+        }
+    }
+
+    // How many glyphs it has: the last one's index and one.
+    pub fn glyph_count(&self) -> usize
+        ensures { first_in (coverage_faults self.now.structure.table.now self.now.structure.start) ≡ None → result ≡ size (coverage_ranges self.now.structure.table.now self.now.structure.start) }
+    {
+        match self.ranges().last() {
+            Some(range) => {
+                range.value as usize + range.last.saturating_sub(range.first) as usize + 1
+            }
+            None => 0,
         }
     }
 
     // The index of a glyph, if it is covered.
     pub fn index_of(&self, glyph: u16) -> Option<usize>
-        ensures { Inside self.now.ranges → Rises 0 (ranges_of self.now.ranges) → result ≡ index_in glyph (holding glyph (ranges_of self.now.ranges)) }
+        ensures { first_in (coverage_faults self.now.structure.table.now self.now.structure.start) ≡ None → result ≡ coverage_index self.now.structure.table.now self.now.structure.start glyph }
     {
-        match self.ranges.find(glyph as u32) {
-            Some(range) => Some(
-                range.value as usize + (glyph as usize).saturating_sub(range.first as usize),
-            ),
-            None => None,
-        }
+        let glyph = u32::from(glyph);
+        let range = self.ranges().find(glyph)?;
+        Some(range.value as usize + glyph.saturating_sub(range.first) as usize)
     }
 }

@@ -1,6 +1,8 @@
 ghost use Rattle.std.specs.Prelude.{◌≡◌, List};
-ghost use Rattle.layout.specs.Faults.{Fault, first_in, own_place, reports, too_long};
+ghost use Rattle.layout.specs.Faults.{first_in, number_or_none, own_place, report_at, reports, too_long};
 ghost use Rattle.layout.specs.Told.{wrapped, told, verdict, placed_verdict, table_verdict, table_told, placed_table, placing};
+
+use std::fmt;
 
 // A field of the structure at `start` that does not lie wholly in the table.
 #[derive(Clone, Copy, Debug, PartialEq)]
@@ -37,12 +39,12 @@ pub enum TableName {
     Gsub,
 }
 
-// Where in a font a structure belongs: its table, and the lookup and the subtable that lead to it.
+// Where in a font a structure belongs: its table, and the lookup and the subtable that lead to it, if any do.
 #[derive(Clone, Copy, Debug, PartialEq)]
 pub struct Place {
     pub table: TableName,
-    pub lookup: u16,
-    pub subtable: u16,
+    pub lookup: Option<u16>,
+    pub subtable: Option<u16>,
 }
 
 // A structure's fault, kept whole, and the structure's place.
@@ -60,11 +62,21 @@ pub enum TableFault {
     Structure(PlacedFault),
 }
 
-// All that a fault tells: its number, where it is, the structure's start and the byte of the first bad field.
+// What a structure's fault tells: its number, the structure's start and the byte of the first bad field.
+#[derive(Clone, Copy)]
+pub struct Fault {
+    pub number: u8,
+    pub start: usize,
+    pub byte: usize,
+}
+
+// All that a table's fault tells: the same, and where it is, with 65,535 for no lookup and no subtable.
 #[derive(Clone, Copy, Debug, PartialEq)]
 pub struct Report {
     pub number: u8,
-    pub place: Place,
+    pub table: TableName,
+    pub lookup: u16,
+    pub subtable: u16,
     pub start: usize,
     pub byte: usize,
 }
@@ -86,29 +98,33 @@ impl From<PlacedFault> for TableFault {
 }
 
 impl StructureFault {
-    // The fault's number, the start of its structure, and the byte of the first bad field.
-    pub fn told(&self) -> (u8, usize, usize)
-        ensures { (result.0 ≡ (told self.now).number) × (result.1 ≡ (told self.now).start) × (result.2 ≡ (told self.now).byte) }
+    pub fn told(&self) -> Fault
+        ensures { result ≡ told self.now }
     {
         match self {
-            StructureFault::PastEnd(fault) => (1, fault.start, fault.at),
-            StructureFault::Broken { rule, start, at } => (*rule as u8, *start, *at),
+            StructureFault::PastEnd(fault) => Fault {
+                number: 1,
+                start: fault.start,
+                byte: fault.at,
+            },
+            StructureFault::Broken { rule, start, at } => Fault {
+                number: *rule as u8,
+                start: *start,
+                byte: *at,
+            },
         }
     }
 }
 
 impl Place {
-    // Stands for no lookup, and for no subtable.
-    pub const NONE: u16 = 65_535;
-
     // A table's own place.
     pub fn of(table: TableName) -> Place
         ensures { result ≡ own_place table }
     {
         Place {
             table,
-            lookup: Place::NONE,
-            subtable: Place::NONE,
+            lookup: None,
+            subtable: None,
         }
     }
 
@@ -117,9 +133,19 @@ impl Place {
         ensures answer { result ≡ placing self answer }
         ensures told { (faults : List Fault) → verdict answer ≡ first_in faults → placed_verdict result ≡ first_in (reports self faults) }
     {
-        match answer {
-            Ok(x) => Ok(x),
-            Err(fault) => Err(PlacedFault { place: self, fault }),
+        answer.map_err(|fault| PlacedFault { place: self, fault })
+    }
+
+    fn report(self, fault: Fault) -> Report
+        ensures { result ≡ report_at self fault }
+    {
+        Report {
+            number: fault.number,
+            table: self.table,
+            lookup: self.lookup.unwrap_or(65_535),
+            subtable: self.subtable.unwrap_or(65_535),
+            start: fault.start,
+            byte: fault.byte,
         }
     }
 }
@@ -139,21 +165,46 @@ impl TableFault {
         ensures { result ≡ table_told self.now }
     {
         match self {
-            TableFault::TooLong(table) => Report {
+            TableFault::TooLong(table) => Place::of(*table).report(Fault {
                 number: 4,
-                place: Place::of(*table),
                 start: 0,
                 byte: 0,
-            },
-            TableFault::Structure(placed) => {
-                let (number, start, byte) = placed.fault.told();
-                Report {
-                    number,
-                    place: placed.place,
-                    start,
-                    byte,
-                }
-            }
+            }),
+            TableFault::Structure(placed) => placed.place.report(placed.fault.told()),
         }
+    }
+}
+
+impl fmt::Display for TableName {
+    fn fmt<W: fmt::Write>(&self, f: &mut fmt::Formatter<W>) -> fmt::Result {
+        f.write_str(match self {
+            TableName::Cmap => "cmap",
+            TableName::Gdef => "GDEF",
+            TableName::Hmtx => "hmtx",
+            TableName::Gsub => "GSUB",
+        })
+    }
+}
+
+impl fmt::Display for Fault {
+    fn fmt<W: fmt::Write>(&self, f: &mut fmt::Formatter<W>) -> fmt::Result {
+        let Fault {
+            number,
+            start,
+            byte,
+        } = self;
+        write!(f, "fault {number} structure {start} byte {byte}")
+    }
+}
+
+impl fmt::Display for Report {
+    fn fmt<W: fmt::Write>(&self, f: &mut fmt::Formatter<W>) -> fmt::Result {
+        let (number, table) = (self.number, self.table);
+        let (lookup, subtable) = (self.lookup, self.subtable);
+        let (start, byte) = (self.start, self.byte);
+        write!(
+            f,
+            "fault {number} table {table} lookup {lookup} subtable {subtable} structure {start} byte {byte}"
+        )
     }
 }

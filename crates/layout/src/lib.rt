@@ -7,3 +7,4 @@ pub mod class;
 pub mod coverage;
 pub mod fault;
 pub mod ranges;
+pub mod structure;

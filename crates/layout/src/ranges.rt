@@ -1,34 +1,14 @@
-ghost use Rattle.std.specs.Prelude.{◌≡◌, ◌+◌, ◌*◌, ◌/◌, ◌^◌, ◌<◌, ◌≤◌, ◌++◌, length, IfSome, OnOk, slice_index_or};
+ghost use Rattle.std.specs.Prelude.{◌≡◌, ◌+◌, ◌*◌, ◌<◌, ◌≤◌, length, IfOk, IfSome, OnOk, slice_index_or};
 ghost use Rattle.layout.specs.Bytes.{bytes_of};
-ghost use Rattle.layout.specs.Faults.{first_in, unless, extent};
-ghost use Rattle.layout.specs.Ranges.{Inside, Rises, holding, last_of, ranges_of, entry_faults, field_size, field_count, entry_size, range_at, ranges_from, value_bound, third_faults, order_faults, array_faults};
+ghost use Rattle.layout.specs.Faults.{first_in, extent};
+ghost use Rattle.layout.specs.Ranges.{Inside, Rises, holding, last_of, ranges_of, entry_faults, field_size, field_count, entry_size, range_at, value_bound, third_faults, order_faults, array_faults};
 ghost use Rattle.layout.specs.Told.{verdict, byte_verdict};
 
-use crate::array::{Kind, Range, RangeArray, Third};
-use crate::bytes::{Width, u16_at, u32_at};
+use crate::array::{Kind, Laid, Range, RangeArray, Third};
+use crate::bytes::{Field, Width};
 use crate::fault::{ByteFault, Rule, StructureFault};
 
 impl Kind {
-    fn field_size(self) -> usize
-        ensures { result ≡ field_size self }
-    {
-        match self {
-            Kind::Glyphs | Kind::Records => 2,
-            Kind::Groups => 4,
-        }
-    }
-
-    fn entry_size(self) -> usize
-        ensures size { result ≡ entry_size self }
-        ensures bound { result ≤ 12 }
-    {
-        match self {
-            Kind::Glyphs => 2,
-            Kind::Records => 6,
-            Kind::Groups => 12,
-        }
-    }
-
     fn width(self) -> Width
         ensures { bytes_of result ≡ field_size self }
     {
@@ -38,54 +18,25 @@ impl Kind {
         }
     }
 
-    // How many of some bytes whole fields take.
-    fn whole_fields(self, bytes: usize) -> usize
-        ensures whole { result ≡ field_size self * (bytes / field_size self) }
-        ensures bound { result ≤ bytes }
-    {
-        self.width().whole(bytes)
-    }
-
-    // The bytes of k entries.
-    fn offset(self, k: u32) -> usize
-        ensures size { result ≡ entry_size self * k }
-        ensures fields { result ≡ field_size self * (field_count self * k) }
-        ensures bound { result ≤ 12 * k }
+    // How many fields so many entries have.
+    fn fields(self, count: u32) -> u64
+        ensures { result ≡ field_count self * count }
     {
         match self {
-            Kind::Glyphs => 2 * k as usize,
-            Kind::Records => 6 * k as usize,
-            Kind::Groups => 12 * k as usize,
+            Kind::Glyphs => u64::from(count),
+            Kind::Records | Kind::Groups => 3 * u64::from(count),
         }
     }
-}
 
-impl<'a> RangeArray<'a> {
-    // All fields of the array lie in the table; else the first that does not.
-    pub(crate) fn check_extent(&self, start: usize) -> Result<(), ByteFault>
-        ensures answer { byte_verdict result ≡ first_in (extent self.now.table.now start self.now.at (field_size self.now.kind) (field_count self.now.kind * self.now.count)) }
-        ensures inside { OnOk result (Inside self.now) }
+    // The entry at a byte, with its number.
+    fn range(self, table: &[u8], at: usize, k: u32) -> Range
+        requires { at + entry_size self ≤ length table.now }
+        ensures range { result ≡ range_at self table.now at k }
+        ensures bound { result.value < value_bound self }
     {
-        let left = self.table.len().saturating_sub(self.at);
-        if self.at <= self.table.len() && self.kind.offset(self.count) <= left {
-            return Ok(());
-        }
-        Err(ByteFault {
-            start,
-            at: self.at + self.kind.whole_fields(left),
-        })
-    }
-
-    // Entry number k, at a byte.
-    fn entry(&self, at: usize, k: u32) -> Range
-        requires { at + entry_size self.now.kind ≤ length self.now.table.now }
-        ensures range { result ≡ range_at self.now.kind self.now.table.now at k }
-        ensures bound { result.value < value_bound self.now.kind }
-    {
-        let table = self.table;
-        match self.kind {
+        match self {
             Kind::Glyphs => {
-                let glyph = u16_at(table, at) as u32;
+                let glyph = u32::from(u16::read(table, at));
                 Range {
                     first: glyph,
                     last: glyph,
@@ -93,144 +44,168 @@ impl<'a> RangeArray<'a> {
                 }
             }
             Kind::Records => Range {
-                first: u16_at(table, at) as u32,
-                last: u16_at(table, at + 2) as u32,
-                value: u16_at(table, at + 4) as u32,
+                first: u32::from(u16::read(table, at)),
+                last: u32::from(u16::read(table, at + 2)),
+                value: u32::from(u16::read(table, at + 4)),
             },
             Kind::Groups => Range {
-                first: u32_at(table, at),
-                last: u32_at(table, at + 4),
-                value: u32_at(table, at + 8),
+                first: u32::read(table, at),
+                last: u32::read(table, at + 4),
+                value: u32::read(table, at + 8),
             },
         }
     }
 
-    // The third field of an entry, by what is asked of it.
-    fn check_third(
-        &self,
-        third: Third,
-        start: usize,
-        at: usize,
-        before: u64,
-        range: Range,
-    ) -> Result<(), StructureFault>
-        requires { range.first ≤ range.last }
-        ensures { verdict result ≡ first_in (third_faults third start at before range) }
+    // The bytes of one field, and of so many entries.
+    fn field_size(self) -> usize
+        ensures size { result ≡ field_size self }
+        ensures bound { result ≤ 4 }
     {
-        match third {
-            Third::StartIndex if range.value as u64 != before => Err(StructureFault::Broken {
-                rule: Rule::Order,
-                start,
-                at,
-            }),
-            Third::GlyphsTo65535
-                if range.value as u64 + (range.last - range.first) as u64 > 65_535 => {
-                Err(StructureFault::Broken {
-                    rule: Rule::Bounds,
-                    start,
-                    at,
-                })
-            }
-            _ => Ok(()),
+        match self.width() {
+            Width::Two => 2,
+            Width::Four => 4,
         }
     }
 
-    // One entry: it begins at `low` or above, ends no sooner than it begins, and its third field is as asked.
-    fn check_entry(
-        &self,
-        third: Third,
-        start: usize,
-        at: usize,
-        low: u64,
-        before: u64,
-        range: Range,
-    ) -> Result<(), StructureFault>
-        requires { at + entry_size self.now.kind ≤ length self.now.table.now }
-        ensures answer { verdict result ≡ first_in (entry_faults third self.now.kind start at low before range) }
-        ensures ordered { OnOk result ((low ≤ range.first) × (range.first ≤ range.last)) }
+    fn offset(self, count: u32) -> usize
+        ensures size { result ≡ entry_size self * count }
+        ensures bound { result ≤ 12 * count }
     {
-        let size = self.kind.field_size();
-        if (range.first as u64) < low {
-            return Err(StructureFault::Broken {
-                rule: Rule::Order,
-                start,
-                at,
-            });
+        match self {
+            Kind::Glyphs => 2 * count as usize,
+            Kind::Records => 6 * count as usize,
+            Kind::Groups => 12 * count as usize,
         }
-        if range.last < range.first {
-            return Err(StructureFault::Broken {
-                rule: Rule::Order,
-                start,
-                at: at + size,
-            });
-        }
-        self.check_third(third, start, at + 2 * size, before, range)
+    }
+}
+
+impl<'a> RangeArray<'a> {
+    // All fields of the array lie in the table; else the first that does not.
+    fn laid(&self) -> Result<Laid<'a>, ByteFault>
+        ensures answer { byte_verdict result ≡ first_in (extent self.now.structure.table.now self.now.structure.start self.now.at (field_size self.now.kind) (field_count self.now.kind * self.now.count)) }
+        ensures array { IfOk result (λ laid. laid.array ≡ self.now) }
+    {
+        let fields = self.kind.fields(self.count);
+        self.structure.check_fields(self.at, self.kind.width(), fields)?;
+        Ok(Laid { array: *self })
     }
 
-    // All entries, in order.
-    pub(crate) fn check_order(&self, third: Third, start: usize) -> Result<(), StructureFault>
-        requires { Inside self.now }
-        ensures { verdict result ≡ first_in (order_faults third self.now.kind start self.now.at 0 0 (ranges_of self.now)) }
+    // The first fault of the array: its extent, then entry by entry.
+    pub fn check(&self, third: Third) -> Result<(), StructureFault>
+        ensures { verdict result ≡ first_in (array_faults third self.now.kind self.now.structure.table.now self.now.structure.start self.now.at self.now.count) }
     {
-        let size = self.kind.entry_size();
-        let mut at = self.at;
-        let mut low = 0;
-        let mut before = 0;
-        for k in 0..self.count {
-            let range = self.entry(at, k);
-            self.check_entry(third, start, at, low, before, range)?;
-            at += size;
-            low = range.last as u64 + 1;
-            before += (range.last - range.first) as u64 + 1;
-        }
-        Ok(())
-    }
-
-    // The first fault of the array in the structure at `start`: its extent, then entry by entry.
-    pub fn check(&self, third: Third, start: usize) -> Result<(), StructureFault>
-        ensures { verdict result ≡ first_in (array_faults third self.now.kind self.now.table.now start self.now.at self.now.count) }
-    {
-        self.check_extent(start)?;
-        self.check_order(third, start)
-    }
-
-    // Entry number k of the array; zeros where it does not lie in the table.
-    fn nth(&self, k: u32) -> Range
-        ensures range { Inside self.now → k < self.now.count → result ≡ slice_index_or (ranges_of self.now) k result }
-        ensures bound { result.value < value_bound self.now.kind }
-    {
-        let offset = self.kind.offset(k);
-        let length = self.table.len();
-        if self.at > length || length - self.at < offset + self.kind.entry_size() {
-            return Range {
-                first: 0,
-                last: 0,
-                value: 0,
-            };
-        }
-        self.entry(self.at + offset, k)
+        self.laid()?.check_order(third)
     }
 
     // The last entry, if there is one.
     pub(crate) fn last(&self) -> Option<Range>
         ensures { Inside self.now → result ≡ last_of (ranges_of self.now) }
     {
-        if self.count == 0 {
-            return None;
-        }
-        Some(self.nth(self.count - 1))
+        self.laid().ok()?.last()
     }
 
-    // The range that holds x, by halving.
+    // The range that holds x.
     pub fn find(&self, x: u32) -> Option<Range>
         ensures range { Inside self.now → Rises 0 (ranges_of self.now) → result ≡ holding x (ranges_of self.now) }
         ensures bound { IfSome result (λ range. range.value < value_bound self.now.kind) }
     {
+        self.laid().ok()?.find(x)
+    }
+}
+
+impl Laid<'_> {
+    // Entry number k.
+    fn entry(&self, k: u32) -> Range
+        requires { k < self.now.array.count }
+        ensures range { result ≡ slice_index_or (ranges_of self.now.array) k result }
+        ensures bound { result.value < value_bound self.now.array.kind }
+    {
+        let RangeArray {
+            structure,
+            kind,
+            at,
+            count: _,
+        } = self.array;
+        kind.range(structure.table, at + kind.offset(k), k)
+    }
+
+    // The last entry, if there is one.
+    fn last(&self) -> Option<Range>
+        ensures { result ≡ last_of (ranges_of self.now.array) }
+    {
+        let last = self.array.count.checked_sub(1)?;
+        Some(self.entry(last))
+    }
+
+    // All entries, in order.
+    fn check_order(&self, third: Third) -> Result<(), StructureFault>
+        ensures { verdict result ≡ first_in (order_faults third self.now.array.kind self.now.array.structure.start self.now.array.at 0 0 (ranges_of self.now.array)) }
+    {
         let mut low = 0;
-        let mut high = self.count;
+        let mut before = 0;
+        for k in 0..self.array.count {
+            let range = self.entry(k);
+            let at = self.array.at + self.array.kind.offset(k);
+            self.check_entry(third, at, low, before, range)?;
+            low = u64::from(range.last) + 1;
+            before += u64::from(range.last - range.first) + 1;
+        }
+        Ok(())
+    }
+
+    // One entry: it begins at `low` or above, ends no sooner than it begins, and its third field is as asked.
+    fn check_entry(
+        &self,
+        third: Third,
+        at: usize,
+        low: u64,
+        before: u64,
+        range: Range,
+    ) -> Result<(), StructureFault>
+        requires { at + entry_size self.now.array.kind ≤ length self.now.array.structure.table.now }
+        ensures answer { verdict result ≡ first_in (entry_faults third self.now.array.kind self.now.array.structure.start at low before range) }
+        ensures ordered { OnOk result ((low ≤ range.first) × (range.first ≤ range.last)) }
+    {
+        let structure = self.array.structure;
+        let size = self.array.kind.field_size();
+        structure.require(low <= u64::from(range.first), Rule::Order, at)?;
+        structure.require(range.first <= range.last, Rule::Order, at + size)?;
+        self.check_third(third, at + 2 * size, before, range)
+    }
+
+    // The third field of an entry, by what is asked of it.
+    fn check_third(
+        &self,
+        third: Third,
+        at: usize,
+        before: u64,
+        range: Range,
+    ) -> Result<(), StructureFault>
+        requires { range.first ≤ range.last }
+        ensures { verdict result ≡ first_in (third_faults third self.now.array.structure.start at before range) }
+    {
+        let structure = self.array.structure;
+        let value = u64::from(range.value);
+        match third {
+            Third::Any => Ok(()),
+            Third::StartIndex => structure.require(value == before, Rule::Order, at),
+            Third::GlyphsTo65535 => {
+                let last = value + u64::from(range.last - range.first);
+                structure.require(last <= 65_535, Rule::Bounds, at)
+            }
+        }
+    }
+
+    // The range that holds x, by halving. The library searches slices of records; these are bytes of three forms.
+    fn find(&self, x: u32) -> Option<Range>
+        ensures range { Rises 0 (ranges_of self.now.array) → result ≡ holding x (ranges_of self.now.array) }
+        ensures bound { IfSome result (λ range. range.value < value_bound self.now.array.kind) }
+    {
+        let mut low = 0;
+        let mut high = self.array.count;
         while low < high {
             let middle = low + (high - low) / 2;
-            let range = self.nth(middle);
+            let range = self.entry(middle);
             if x < range.first {
                 high = middle;
             } else if range.last < x {

@@ -1,0 +1,75 @@
+ghost use Rattle.std.specs.Prelude.{◌≡◌, true, ◌+◌, ◌*◌, ◌^◌, ◌<◌, ◌≤◌, length, IfOk, OnOk};
+ghost use Rattle.layout.specs.Bytes.{u16_at, bytes_of};
+ghost use Rattle.layout.specs.Faults.{first_in, extent, unless, format_faults};
+ghost use Rattle.layout.specs.Told.{verdict, byte_verdict, number_of};
+
+use crate::bytes::{Field, Width};
+use crate::fault::{ByteFault, Rule, StructureFault};
+
+// A structure of a table, by the byte at which it starts. Its faults are told with that start.
+#[derive(Clone, Copy)]
+pub struct Structure<'a> {
+    pub table: &'a [u8],
+    pub start: usize,
+    // So has every slice, but a proof would not know it of one in a struct.
+    ghost fits: { length table.now < 2 ^ 63 },
+}
+
+impl<'a> Structure<'a> {
+    // So many fields lie in the table, the first of them at a byte; else the first that does not.
+    pub fn check_fields(&self, at: usize, width: Width, count: u64) -> Result<(), ByteFault>
+        ensures answer { byte_verdict result ≡ first_in (extent self.now.table.now self.now.start at (bytes_of width) count) }
+        ensures inside { OnOk result (at + bytes_of width * count ≤ length self.now.table.now) }
+    {
+        let length = self.table.len();
+        let left = length.saturating_sub(at);
+        if at <= length && width.fits(count, left) {
+            return Ok(());
+        }
+        Err(ByteFault {
+            start: self.start,
+            at: at + width.whole(left),
+        })
+    }
+
+    // The field that stands at a byte.
+    pub fn field<F: Field>(&self, at: usize) -> Result<F, ByteFault>
+        ensures answer { byte_verdict result ≡ first_in (extent self.now.table.now self.now.start at (bytes_of F.width) 1) }
+        ensures value { IfOk result (λ v. (v ≡ F.value self.now.table.now at) × (at + bytes_of F.width ≤ length self.now.table.now)) }
+    {
+        self.check_fields(at, F::width(), 1)?;
+        Ok(F::read(self.table, at))
+    }
+
+    // A test of the field at a byte: a rule that it breaks where the test fails.
+    pub fn require(&self, test: bool, rule: Rule, at: usize) -> Result<(), StructureFault>
+        ensures answer { verdict result ≡ first_in (unless test (number_of rule) self.now.start at) }
+        ensures passed { OnOk result (test ≡ true) }
+    {
+        if test {
+            return Ok(());
+        }
+        Err(StructureFault::Broken {
+            rule,
+            start: self.start,
+            at,
+        })
+    }
+
+    // The format that it begins with, from 1 to some number.
+    pub fn format(&self, most: u16) -> Result<u16, StructureFault>
+        ensures answer { verdict result ≡ first_in (format_faults self.now.table.now self.now.start most) }
+        ensures format { IfOk result (λ f. (f ≡ u16_at self.now.table.now self.now.start) × (self.now.start + 2 ≤ length self.now.table.now) × (1 ≤ f) × (f ≤ most)) }
+    {
+        let format = self.field::<u16>(self.start)?;
+        self.require(1 <= format && format <= most, Rule::Unknown, self.start)?;
+        Ok(format)
+    }
+
+    // The 16 bits some bytes behind the start; 0 past the end.
+    pub fn u16_in(&self, offset: usize) -> u16
+        ensures { result ≡ u16_at self.now.table.now (self.now.start + offset) }
+    {
+        u16::read(self.table, self.start.saturating_add(offset))
+    }
+}
