@@ -2,3 +2,4 @@ mod Bits
 mod Examples
 mod Placed
 mod Remembers
+mod Turns

@@ -1,7 +1,13 @@
 -- The parts that the faults of GSUB's structures are put together from: counts within bounds, and offsets that lead to further structures.
 use Rattle.std.specs.Prelude.{ℕ, ◌+◌, Bool, false, cond, ◌&&◌, List, ◌++◌, ◌==◌, nat_le}
 use Rattle.layout.specs.Bytes.{u16_at}
-use Rattle.layout.specs.Faults.{Fault, unless, extent, in_turn}
+use Rattle.layout.specs.declared.fault.Fault.{Fault}
+use Rattle.layout.specs.Faults.{unless, extent, in_turn}
+
+-- What a walk goes over: a table, and how many lookups it has.
+pub record Walked : Type 0 where
+  pub table : List ℕ
+  pub lookups : ℕ
 
 -- The faults of the structure that starts at a byte.
 abbrev pub Faults : Type 0

@@ -1,8 +1,9 @@
 -- Rules of context lookups: which glyphs must stand before, in and after the input, and the records that a match runs.
-use Rattle.std.specs.Prelude.{ℕ, ◌+◌, ◌-◌, ◌*◌, ◌≤◌, false, List, ◌++◌, length, nat_lt}
+use Rattle.std.specs.Prelude.{ℕ, ◌+◌, ◌-◌, ◌*◌, ◌≤◌, Bool, true, false, List, ◌++◌, length, nat_lt}
 use Rattle.layout.specs.Bytes.{u16_at}
 use Rattle.layout.specs.Coverages.{coverage_faults}
-use Rattle.layout.specs.Faults.{Fault, unless, extent, in_turn}
+use Rattle.layout.specs.declared.fault.Fault.{Fault}
+use Rattle.layout.specs.Faults.{unless, extent, in_turn}
 use Rattle.gsub.specs.declared.arrays.Entries.{Entries}
 use Rattle.gsub.specs.declared.arrays.Entries.TheVariants.{All, ButFirst, Records}
 use Rattle.gsub.specs.declared.arrays.Array.{Array}
@@ -61,15 +62,21 @@ chain_counts t s i entries =
 abbrev pub record_faults : (table : List ℕ) → (lookups s i n : ℕ) → List Fault
 record_faults t lookups s i n = in_turn (λ k b. unless (nat_lt (u16_at t (b + 2)) lookups) 5 s (b + 2)) 4 0 i n
 
--- The faults of a rule of type 5, and of one of type 6.
 abbrev pub records_of : (table : List ℕ) → (lookups s : ℕ) → RuleArrays → List Fault
 records_of t lookups s r = record_faults t lookups s r.records.at r.records.count
 
-abbrev pub rule_faults : (table : List ℕ) → (lookups s : ℕ) → List Fault
-rule_faults t lookups s = plain_counts t s s ButFirst ++ records_of t lookups s (plain_rule t s ButFirst)
+-- The same by whether the rule chains: it is of type 6 if so, else of type 5.
+abbrev pub rule_of : (chain : Bool) → (table : List ℕ) → (i : ℕ) → Entries → RuleArrays
+rule_of false t i entries = plain_rule t i entries
+rule_of true t i entries = chain_rule t i entries
 
-abbrev pub chain_rule_faults : (table : List ℕ) → (lookups s : ℕ) → List Fault
-chain_rule_faults t lookups s = chain_counts t s s ButFirst ++ records_of t lookups s (chain_rule t s ButFirst)
+abbrev pub counts_of : (chain : Bool) → (table : List ℕ) → (s i : ℕ) → Entries → List Fault
+counts_of false t s i entries = plain_counts t s i entries
+counts_of true t s i entries = chain_counts t s i entries
+
+-- The faults of a rule of a rule set.
+abbrev pub rule_faults : (chain : Bool) → (table : List ℕ) → (lookups s : ℕ) → List Fault
+rule_faults chain t lookups s = counts_of chain t s s ButFirst ++ records_of t lookups s (rule_of chain t s ButFirst)
 
 -- Coverages that an array lists, counted from the subtable at s; and those of the rule of a format 3.
 abbrev pub coverages : (table : List ℕ) → (s : ℕ) → Array → List Fault

@@ -3,14 +3,15 @@ use Rattle.std.specs.Prelude.{ℕ, ◌+◌, ◌*◌, Bool, true, false, List, �
 use Rattle.layout.specs.Bytes.{u16_at}
 use Rattle.layout.specs.Classes.{class_faults}
 use Rattle.layout.specs.Coverages.{coverage_faults, coverage_ranges}
-use Rattle.layout.specs.Faults.{Fault, unless, extent}
+use Rattle.layout.specs.declared.fault.Fault.{Fault}
+use Rattle.layout.specs.Faults.{unless, extent}
 use Rattle.layout.specs.Ranges.{size}
 use Rattle.gsub.specs.Forms.{Form, delta, single, multiple, alternate, ligature, glyph_rules, class_rules, coverage_rule, reverse, form_of}
 use Rattle.gsub.specs.Follow.{Faults, behind, each_behind, list_faults}
 use Rattle.gsub.specs.declared.arrays.Array.{Array}
 use Rattle.gsub.specs.declared.rules.RuleArrays.{RuleArrays}
 use Rattle.gsub.specs.declared.arrays.Entries.TheVariants.{All, ButFirst}
-use Rattle.gsub.specs.Rules.{past, array_at, plain_rule, chain_rule, plain_counts, chain_counts, counted_array, records_of, rule_faults, chain_rule_faults, coverages, context_coverages}
+use Rattle.gsub.specs.Rules.{past, array_at, rule_of, counts_of, counted_array, records_of, rule_faults, coverages, context_coverages}
 
 -- The coverage of the subtable at s, whose offset stands at byte s + 2.
 abbrev pub coverage_of : (table : List ℕ) → (s : ℕ) → List Fault
@@ -41,6 +42,11 @@ ligature_faults t s = extent t s s 2 1 ++ counted_array t s (s + 2) 1 ButFirst
 
 abbrev pub ligature_set_faults : (table : List ℕ) → (s : ℕ) → List Fault
 ligature_set_faults t s = list_faults t s (ligature_faults t)
+
+-- How many class definitions stand in a subtable of format 2: of the input alone, or of backtrack, input and lookahead.
+abbrev pub class_count : (chain : Bool) → ℕ
+class_count false = 1
+class_count true = 3
 
 -- A rule set lists rules.
 abbrev pub rule_set_faults : (rule : Faults) → (table : List ℕ) → (s : ℕ) → List Fault
@@ -82,12 +88,9 @@ module _ (t : List ℕ) (lookups s : ℕ) where
   form_faults multiple = sets_faults false t s (sequence_faults t)
   form_faults alternate = sets_faults false t s (alternates_faults t)
   form_faults ligature = sets_faults false t s (ligature_set_faults t)
-  form_faults (glyph_rules false) = sets_faults true t s (rule_set_faults (rule_faults t lookups) t)
-  form_faults (glyph_rules true) = sets_faults true t s (rule_set_faults (chain_rule_faults t lookups) t)
-  form_faults (class_rules false) = class_sets 1 (rule_set_faults (rule_faults t lookups) t)
-  form_faults (class_rules true) = class_sets 3 (rule_set_faults (chain_rule_faults t lookups) t)
-  form_faults (coverage_rule false) = one_rule (plain_counts t s (s + 2) All) (plain_rule t (s + 2) All)
-  form_faults (coverage_rule true) = one_rule (chain_counts t s (s + 2) All) (chain_rule t (s + 2) All)
+  form_faults (glyph_rules chain) = sets_faults true t s (rule_set_faults (rule_faults chain t lookups) t)
+  form_faults (class_rules chain) = class_sets (class_count chain) (rule_set_faults (rule_faults chain t lookups) t)
+  form_faults (coverage_rule chain) = one_rule (counts_of chain t s (s + 2) All) (rule_of chain t (s + 2) All)
   form_faults reverse = reverse_faults
 
   abbrev pub by_form : Option Form → List Fault

@@ -1,11 +1,11 @@
 -- The faults of a GSUB table: its length, the header, the lookup list, and each lookup with its subtables, in the order of a walk.
-use Rattle.std.specs.Prelude.{ℕ, ◌+◌, Bool, false, cond, not, ◌&&◌, ◌||◌, List, ◌++◌, ◌==◌, bit_and, nat_le}
+use Rattle.std.specs.Prelude.{ℕ, ◌+◌, Bool, false, cond, not, ◌&&◌, ◌||◌, List, ◌++◌, Some, None, Option, ◌==◌, bit_and, nat_le}
 use Rattle.layout.specs.declared.fault.Place.{Place}
 use Rattle.layout.specs.declared.fault.Report.{Report}
 use Rattle.layout.specs.declared.fault.TableName.TheVariants.{Gsub}
 use Rattle.layout.specs.Bytes.{u16_at, u32_at}
-use Rattle.layout.specs.Coverages.{format_faults}
-use Rattle.layout.specs.Faults.{Fault, unless, extent, in_turn, reports, own_place, too_long}
+use Rattle.layout.specs.declared.fault.Fault.{Fault}
+use Rattle.layout.specs.Faults.{unless, extent, format_faults, in_turn, reports, own_place, too_long}
 use Rattle.gsub.specs.Follow.{each_behind}
 use Rattle.gsub.specs.Subtables.{subtable_faults}
 
@@ -62,17 +62,17 @@ abbrev pub bare_lookup_faults : (table : List ℕ) → (lookups s : ℕ) → Lis
 bare_lookup_faults t lookups s = lookup_fields t s ++ each_behind false t s (s + 6) (u16_at t (s + 4)) (lookup_subtable t lookups s)
 
 -- The place of a subtable, and of a lookup.
-abbrev pub in_lookup : (lookup subtable : ℕ) → Place
-in_lookup k j = record { table = Gsub; lookup = k; subtable = j }
+abbrev pub in_lookup : (lookup : ℕ) → (subtable : Option ℕ) → Place
+in_lookup k j = record { table = Gsub; lookup = Some k; subtable = j }
 
 -- Subtable j of lookup k, whose offset stands at byte i. An offset of 0 is a fault of the lookup itself.
 abbrev pub subtable_faults_at : (table : List ℕ) → (lookups k s j i : ℕ) → List Report
 subtable_faults_at t lookups k s j i =
-    cond (u16_at t i == 0) (reports (in_lookup k 65535) (unless false 2 s i)) (reports (in_lookup k j) (lookup_subtable t lookups s (s + u16_at t i)))
+    cond (u16_at t i == 0) (reports (in_lookup k None) (unless false 2 s i)) (reports (in_lookup k (Some j)) (lookup_subtable t lookups s (s + u16_at t i)))
 
 -- The faults of lookup k, which starts at byte s: its own fields, then its subtables in order.
 abbrev pub lookup_faults : (table : List ℕ) → (lookups k s : ℕ) → List Report
-lookup_faults t lookups k s = reports (in_lookup k 65535) (lookup_fields t s) ++ in_turn (subtable_faults_at t lookups k s) 2 0 (s + 6) (u16_at t (s + 4))
+lookup_faults t lookups k s = reports (in_lookup k None) (lookup_fields t s) ++ in_turn (subtable_faults_at t lookups k s) 2 0 (s + 6) (u16_at t (s + 4))
 
 -- Lookup k, whose offset stands at byte i of the lookup list at s.
 abbrev pub lookup_faults_at : (table : List ℕ) → (lookups s k i : ℕ) → List Report

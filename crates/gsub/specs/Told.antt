@@ -1,14 +1,18 @@
 -- What the check of a GSUB table answers.
 use Rattle.std.specs.Prelude.{◌≡◌, List, Some, None, Ok, Err, Result}
+use Rattle.layout.specs.declared.fault.PlacedFault.{PlacedFault}
 use Rattle.layout.specs.declared.fault.Report.{Report}
 use Rattle.layout.specs.declared.fault.TableFault.{TableFault}
 use Rattle.layout.specs.Faults.{first_in}
-use Rattle.layout.specs.Told.{table_told}
+use Rattle.layout.specs.Told.{placed_table, table_told}
 use Rattle.gsub.specs.declared.check.CheckError.{CheckError}
 use Rattle.gsub.specs.declared.check.CheckError.TheVariants.{Fault, Memory}
 
 abbrev pub of_fault : TableFault → CheckError
 of_fault f = Fault f
+
+abbrev pub of_placed : PlacedFault → CheckError
+of_placed p = Fault (placed_table p)
 
 abbrev pub of_memory : CheckError
 of_memory = Memory

@@ -1,15 +1,15 @@
-ghost use Rattle.std.specs.Prelude.{◌≡◌, ◌+◌, ◌*◌, if◌then◌else◌, nat_lt};
+ghost use Rattle.std.specs.Prelude.{◌≡◌, ◌+◌, ◌*◌, if◌then◌else◌, IfOk, nat_lt};
 ghost use Rattle.layout.specs.Bytes.{u16_at};
-ghost use Rattle.layout.specs.Faults.{first_in};
-ghost use Rattle.layout.specs.Told.{table_verdict};
 ghost use Rattle.gsub.specs.Meaning.{lookup_at};
-ghost use Rattle.gsub.specs.Tables.{gsub_faults, lookup_count};
-ghost use Rattle.gsub.specs.Told.{Right, kept, of_fault, of_memory, told};
+ghost use Rattle.gsub.specs.Tables.{gsub_faults, walk_faults, lookup_count};
+ghost use Rattle.gsub.specs.Told.{Right, kept, of_fault, of_memory, of_placed, told};
 
-use crate::lookups::check_table;
+use crate::lookups::{check_header, lookup_count};
 use crate::table::Gsub;
-use layout::bytes::{u16_at, u16_in};
-use layout::fault::{TableFault, TableName, check_length};
+use crate::walk::Walk;
+use layout::bytes::Field;
+use layout::fault::{Place, PlacedFault, TableFault, TableName, check_length};
+use layout::structure::Structure;
 use std::alloc::{AllocError, Global};
 
 // Why a table was not accepted.
@@ -36,21 +36,31 @@ impl From<AllocError> for CheckError {
     }
 }
 
-// The first fault of a table, with memory for what is remembered.
-fn check_in(table: &[u8], seen: &mut [u16]) -> Result<(), TableFault>
-    ensures { table_verdict result ≡ first_in (gsub_faults table.now) }
-{
-    check_length(TableName::Gsub, table)?;
-    Ok(check_table(table, seen)?)
+impl From<PlacedFault> for CheckError {
+    ghost from_gives = { λ p r. r ≡ of_placed p };
+
+    fn from(fault: PlacedFault) -> CheckError {
+        CheckError::Fault(TableFault::Structure(fault))
+    }
 }
 
-// The same, with memory from the heap: 16 bits for each byte of a table that is not too long.
+// The whole table behind its length. The memory for what is remembered takes 16 bits for each byte.
+fn check_behind_length(heap: Global, table: &[u8]) -> Result<(), CheckError>
+    ensures { Right (walk_faults table.now) (told result) }
+{
+    let place = Place::of(TableName::Gsub);
+    let start = usize::from(place.hold(check_header(Structure { table, start: 0 }))?);
+    let lookups = place.hold(lookup_count(Structure { table, start }))?;
+    let mut walk = Walk::new(heap, table, lookups)?;
+    Ok(walk.check_lookups(start)?)
+}
+
+// The first fault of a table.
 fn check(heap: Global, table: &[u8]) -> Result<(), CheckError>
     ensures { Right (gsub_faults table.now) (told result) }
 {
-    let length = table.len().min(16_777_215);
-    let mut seen = vec![in heap; 0u16; length]?;
-    Ok(check_in(table, seen.as_mut_slice())?)
+    check_length(TableName::Gsub, table)?;
+    check_behind_length(heap, table)
 }
 
 impl<'a> Gsub<'a> {
@@ -63,20 +73,28 @@ impl<'a> Gsub<'a> {
         }
     }
 
+    // A table, if it has no fault; else its first fault is answered.
+    pub fn checked(heap: Global, table: &'a [u8]) -> Result<Gsub<'a>, CheckError>
+        ensures answer { Right (gsub_faults table.now) (told result) }
+        ensures table { IfOk result (λ gsub. gsub.table.now ≡ table.now) }
+    {
+        check(heap, table)?;
+        Ok(Gsub { table })
+    }
+
     // Takes a table, if it has no fault; else its first fault is answered, and nothing changes.
     pub fn read(&mut self, heap: Global, table: &'a [u8]) -> Result<(), CheckError>
         ensures answer { Right (gsub_faults table.now) (told result) }
         ensures table { self.new.table.now ≡ kept (told result) table.now self.old.table.now }
     {
-        check(heap, table)?;
-        *self = Gsub { table };
+        *self = Gsub::checked(heap, table)?;
         Ok(())
     }
 
     pub fn lookup_count(&self) -> u16
         ensures { result ≡ lookup_count self.now.table.now }
     {
-        u16_at(self.table, u16_at(self.table, 8) as usize)
+        u16::read(self.table, usize::from(u16::read(self.table, 8)))
     }
 
     // How many subtables a lookup has; 0 for a lookup that does not exist.
@@ -86,8 +104,8 @@ impl<'a> Gsub<'a> {
         if lookup >= self.lookup_count() {
             return 0;
         }
-        let list = u16_at(self.table, 8) as usize;
-        let offset = u16_at(self.table, list + 2 + 2 * lookup as usize) as usize;
-        u16_in(self.table, list + offset, 4)
+        let list = usize::from(u16::read(self.table, 8));
+        let offset = u16::read(self.table, list + 2 + 2 * usize::from(lookup));
+        u16::read(self.table, list + usize::from(offset) + 4)
     }
 }

@@ -3,6 +3,7 @@
 
 mod arrays;
 pub mod check;
+mod follow;
 mod forms;
 mod lookups;
 pub mod meaning;

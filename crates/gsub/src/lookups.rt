@@ -1,296 +1,193 @@
-ghost use Rattle.std.specs.Prelude.{◌≡◌, ◌+◌, ◌*◌, ◌≤◌, false, length, IfOk, OnOk};
+ghost use Rattle.std.specs.Prelude.{◌≡◌, ◌+◌, ◌*◌, ◌≤◌, length, IfOk, OnOk};
 ghost use Rattle.layout.specs.Bytes.{u16_at, u32_at};
-ghost use Rattle.layout.specs.Faults.{first_in, unless, in_turn};
+ghost use Rattle.layout.specs.Faults.{first_in, in_turn};
 ghost use Rattle.layout.specs.Told.{verdict, placed_verdict};
-ghost use Rattle.gsub.specs.Seen.{Sound};
-ghost use Rattle.gsub.specs.Tables.{movable, extension_fields, extension_faults, has_mark_set, in_lookup, lookup_fields, lookup_subtable, subtable_faults_at, lookup_faults, lookup_faults_at, header_faults, lookup_list_faults, walk_faults};
+ghost use Rattle.gsub.specs.Tables.{movable, extension_fields, extension_faults, has_mark_set, in_lookup, lookup_fields, lookup_subtable, moved_type, subtable_faults_at, lookup_faults, lookup_faults_at, header_faults, lookup_list_faults};
 
-use crate::forms::check_subtable;
-use crate::seen::{Kind, is_remembered, remember};
-use layout::bytes::{Width, check_fields, u16_at, u16_field, u32_field};
-use layout::coverage::format_field;
+use crate::seen::Kind;
+use crate::walk::Walk;
+use layout::bytes::{Field, Width};
 use layout::fault::{Place, PlacedFault, Rule, StructureFault, TableName};
+use layout::structure::Structure;
 
 // The types that an extension can move.
 fn is_movable(lookup_type: u16) -> bool
     ensures { result ≡ movable lookup_type }
 {
-    match lookup_type {
-        1..=6 | 8 => true,
-        _ => false,
-    }
+    matches!(lookup_type, 1..=6 | 8)
 }
 
 // The type and the offset of an extension.
-fn extension_offset(moved: u16, table: &[u8], start: usize) -> Result<u32, StructureFault>
-    ensures answer { verdict result ≡ first_in (extension_fields table.now moved start) }
-    ensures offset { IfOk result (λ o. (o ≡ u32_at table.now (start + 4)) × (start + 8 ≤ length table.now)) }
+fn extension_offset(moved: u16, extension: Structure<'_>) -> Result<u32, StructureFault>
+    ensures answer { verdict result ≡ first_in (extension_fields extension.entry.table.now moved extension.entry.start) }
+    ensures offset { IfOk result (λ o. (o ≡ u32_at extension.entry.table.now (extension.entry.start + 4)) × (extension.entry.start + 8 ≤ length extension.entry.table.now)) }
 {
-    format_field(table, start, 1)?;
-    let lookup_type = u16_field(table, start, start + 2)?;
-    if !is_movable(lookup_type) || lookup_type != moved {
-        return Err(StructureFault::Broken {
-            rule: Rule::Unknown,
-            start,
-            at: start + 2,
-        });
-    }
-    let offset = u32_field(table, start, start + 4)?;
-    if offset == 0 {
-        return Err(StructureFault::Broken {
-            rule: Rule::Unknown,
-            start,
-            at: start + 4,
-        });
-    }
+    let start = extension.start;
+    extension.format(1)?;
+    let lookup_type = extension.field::<u16>(start + 2)?;
+    let right = is_movable(lookup_type) && lookup_type == moved;
+    extension.require(right, Rule::Unknown, start + 2)?;
+    let offset = extension.field::<u32>(start + 4)?;
+    extension.require(offset != 0, Rule::Unknown, start + 4)?;
     Ok(offset)
 }
 
-// A subtable of type 7 in a lookup that moves a type.
-fn check_extension(
-    moved: u16,
-    table: &[u8],
-    lookups: u16,
-    seen: &mut [u16],
-    start: usize,
-) -> Result<(), StructureFault>
-    requires { Sound table.now lookups seen.old }
-    ensures answer { verdict result ≡ first_in (extension_faults table.now lookups moved start) }
-    ensures sound { Sound table.now lookups seen.new }
+fn has_mark_set(lookup: Structure<'_>) -> bool
+    ensures { result ≡ has_mark_set lookup.entry.table.now lookup.entry.start }
 {
-    let offset = extension_offset(moved, table, start)?;
-    check_subtable(moved, table, lookups, seen, start + offset as usize)
-}
-
-fn has_mark_set(table: &[u8], start: usize) -> bool
-    requires { start + 2 ≤ length table.now }
-    ensures { result ≡ has_mark_set table.now start }
-{
-    u16_at(table, start + 2) & 0x0010 != 0
+    lookup.u16_in(2) & 0x0010 != 0
 }
 
 // The fields of a lookup.
-fn check_lookup_fields(table: &[u8], start: usize) -> Result<(), StructureFault>
-    ensures answer { verdict result ≡ first_in (lookup_fields table.now start) }
-    ensures inside { OnOk result (start + 6 + 2 * u16_at table.now (start + 4) ≤ length table.now) }
+fn check_lookup_fields(lookup: Structure<'_>) -> Result<(), StructureFault>
+    ensures answer { verdict result ≡ first_in (lookup_fields lookup.entry.table.now lookup.entry.start) }
+    ensures inside { OnOk result (lookup.entry.start + 6 + 2 * u16_at lookup.entry.table.now (lookup.entry.start + 4) ≤ length lookup.entry.table.now) }
 {
-    let lookup_type = u16_field(table, start, start)?;
-    if lookup_type < 1 || lookup_type > 8 {
-        return Err(StructureFault::Broken {
-            rule: Rule::Unknown,
-            start,
-            at: start,
-        });
-    }
-    check_fields(table, start, start + 2, Width::Two, 2)?;
-    let count = u16_at(table, start + 4);
-    let mark_sets = if has_mark_set(table, start) { 1 } else { 0 };
-    Ok(check_fields(
-        table,
-        start,
-        start + 6,
-        Width::Two,
-        count as u64 + mark_sets,
-    )?)
+    let start = lookup.start;
+    let lookup_type = lookup.field::<u16>(start)?;
+    lookup.require(1 <= lookup_type && lookup_type <= 8, Rule::Unknown, start)?;
+    lookup.check_fields(start + 2, Width::Two, 2)?;
+    let count = u64::from(lookup.u16_in(4));
+    let mark_sets = if has_mark_set(lookup) { 1 } else { 0 };
+    Ok(lookup.check_fields(start + 6, Width::Two, count + mark_sets)?)
 }
 
-// A subtable of the lookup at `start` that starts at a byte.
-fn check_lookup_subtable(
-    table: &[u8],
-    lookups: u16,
-    seen: &mut [u16],
-    start: usize,
-    at: usize,
-) -> Result<(), StructureFault>
-    requires sound { Sound table.now lookups seen.old }
-    requires inside { start + 8 ≤ length table.now }
-    ensures answer { verdict result ≡ first_in (lookup_subtable table.now lookups start at) }
-    ensures sound { Sound table.now lookups seen.new }
+// The type that an extension lookup moves.
+fn moved_type(lookup: Structure<'_>) -> u16
+    requires { lookup.start + 8 ≤ length lookup.table.now }
+    ensures { result ≡ moved_type lookup.entry.table.now lookup.entry.start }
 {
-    let lookup_type = u16_at(table, start);
-    if lookup_type != 7 {
-        return check_subtable(lookup_type, table, lookups, seen, at);
-    }
-    let first = start + u16_at(table, start + 6) as usize;
-    check_extension(u16_at(table, first + 2), table, lookups, seen, at)
+    let first = lookup.start + usize::from(lookup.u16_in(6));
+    u16::read(lookup.table, first + 2)
 }
 
-// Subtable number j of lookup k, whose offset stands at a byte.
-fn check_subtable_at(
-    k: u16,
-    j: u16,
-    table: &[u8],
-    lookups: u16,
-    seen: &mut [u16],
-    start: usize,
-    at: usize,
-) -> Result<(), PlacedFault>
-    requires sound { Sound table.now lookups seen.old }
-    requires inside { start + 8 ≤ length table.now }
-    ensures answer { placed_verdict result ≡ first_in (subtable_faults_at table.now lookups k start j at) }
-    ensures sound { Sound table.now lookups seen.new }
-{
-    let offset = u16_at(table, at);
-    if offset == 0 {
-        return in_lookup(k, Place::NONE).hold(wrong_null(start, at));
-    }
-    let answer = check_lookup_subtable(table, lookups, seen, start, start + offset as usize);
-    in_lookup(k, j).hold(answer)
-}
-
-fn in_lookup(lookup: u16, subtable: u16) -> Place
+fn in_lookup(lookup: u16, subtable: Option<u16>) -> Place
     ensures { result ≡ in_lookup lookup subtable }
 {
     Place {
         table: TableName::Gsub,
-        lookup,
+        lookup: Some(lookup),
         subtable,
     }
 }
 
-// An offset of 0 where there must be a structure.
-fn wrong_null(start: usize, at: usize) -> Result<(), StructureFault>
-    ensures { verdict result ≡ first_in (unless false 2 start at) }
-{
-    Err(StructureFault::Broken {
-        rule: Rule::Unknown,
-        start,
-        at,
-    })
-}
-
-// The subtables of lookup k, in order.
-fn check_subtables(
-    k: u16,
-    table: &[u8],
-    lookups: u16,
-    seen: &mut [u16],
-    start: usize,
-    count: u16,
-) -> Result<(), PlacedFault>
-    requires sound { Sound table.now lookups seen.old }
-    requires inside { start + 6 + 2 * count ≤ length table.now }
-    ensures answer { placed_verdict result ≡ first_in (in_turn (subtable_faults_at table.now lookups k start) 2 0 (start + 6) count) }
-    ensures sound { Sound table.now lookups seen.new }
-{
-    let mut at = start + 6;
-    for j in 0..count {
-        check_subtable_at(k, j, table, lookups, seen, start, at)?;
-        at += 2;
+impl Walk<'_> {
+    // A subtable of type 7 in a lookup that moves a type.
+    fn check_extension(&mut self, moved: u16, start: usize) -> Result<(), StructureFault>
+        ensures answer { verdict result ≡ first_in (extension_faults self.old.table self.old.lookups moved start) }
+        ensures same { self.new ≡ self.old }
+    {
+        let offset = extension_offset(moved, self.structure(start))?;
+        self.check_subtable(moved, start + offset as usize)
     }
-    Ok(())
-}
 
-// Lookup k, which starts at a byte, unless that was found without faults before.
-fn check_lookup(
-    k: u16,
-    table: &[u8],
-    lookups: u16,
-    seen: &mut [u16],
-    start: usize,
-) -> Result<(), PlacedFault>
-    requires { Sound table.now lookups seen.old }
-    ensures answer { placed_verdict result ≡ first_in (lookup_faults table.now lookups k start) }
-    ensures sound { Sound table.now lookups seen.new }
-{
-    if is_remembered(seen, Kind::Lookup, start) {
-        return Ok(());
+    // A subtable of the lookup at `start` that starts at a byte.
+    fn check_lookup_subtable(&mut self, start: usize, at: usize) -> Result<(), StructureFault>
+        requires { start + 8 ≤ length self.old.table }
+        ensures answer { verdict result ≡ first_in (lookup_subtable self.old.table self.old.lookups start at) }
+        ensures same { self.new ≡ self.old }
+    {
+        let lookup = self.structure(start);
+        let lookup_type = u16::read(lookup.table, start);
+        if lookup_type != 7 {
+            return self.check_subtable(lookup_type, at);
+        }
+        self.check_extension(moved_type(lookup), at)
     }
-    in_lookup(k, Place::NONE).hold(check_lookup_fields(table, start))?;
-    let count = u16_at(table, start + 4);
-    check_subtables(k, table, lookups, seen, start, count)?;
-    remember(seen, Kind::Lookup, start);
-    Ok(())
-}
 
-// Lookup k, whose offset stands at a byte of the lookup list.
-fn check_lookup_at(
-    k: u16,
-    table: &[u8],
-    lookups: u16,
-    seen: &mut [u16],
-    list: usize,
-    at: usize,
-) -> Result<(), PlacedFault>
-    requires sound { Sound table.now lookups seen.old }
-    requires inside { list ≤ length table.now }
-    ensures answer { placed_verdict result ≡ first_in (lookup_faults_at table.now lookups list k at) }
-    ensures sound { Sound table.now lookups seen.new }
-{
-    let offset = u16_at(table, at);
-    if offset == 0 {
-        return Place::of(TableName::Gsub).hold(wrong_null(list, at));
+    // Subtable number j of lookup k.
+    fn check_subtable_at(&mut self, k: u16, j: u16, start: usize) -> Result<(), PlacedFault>
+        requires { start + 8 + 2 * j ≤ length self.old.table }
+        ensures answer { placed_verdict result ≡ first_in (subtable_faults_at self.old.table self.old.lookups k start j (start + 6 + 2 * j)) }
+        ensures same { self.new ≡ self.old }
+    {
+        let lookup = self.structure(start);
+        let at = start + 6 + 2 * usize::from(j);
+        let offset = u16::read(lookup.table, at);
+        if offset == 0 {
+            return in_lookup(k, None).hold(lookup.require(false, Rule::Unknown, at));
+        }
+        let answer = self.check_lookup_subtable(start, start + usize::from(offset));
+        in_lookup(k, Some(j)).hold(answer)
     }
-    check_lookup(k, table, lookups, seen, list + offset as usize)
-}
 
-// All lookups, in order.
-fn check_lookups(
-    table: &[u8],
-    lookups: u16,
-    seen: &mut [u16],
-    list: usize,
-) -> Result<(), PlacedFault>
-    requires sound { Sound table.now lookups seen.old }
-    requires inside { list + 2 + 2 * lookups ≤ length table.now }
-    ensures { placed_verdict result ≡ first_in (in_turn (lookup_faults_at table.now lookups list) 2 0 (list + 2) lookups) }
-{
-    let mut at = list + 2;
-    for k in 0..lookups {
-        check_lookup_at(k, table, lookups, seen, list, at)?;
-        at += 2;
+    // The subtables of lookup k, in order.
+    fn check_subtables(&mut self, k: u16, start: usize, count: u16) -> Result<(), PlacedFault>
+        requires { start + 6 + 2 * count ≤ length self.old.table }
+        ensures answer { placed_verdict result ≡ first_in (in_turn (subtable_faults_at self.old.table self.old.lookups k start) 2 0 (start + 6) count) }
+        ensures same { self.new ≡ self.old }
+    {
+        for j in 0..count {
+            self.check_subtable_at(k, j, start)?;
+        }
+        Ok(())
     }
-    Ok(())
+
+    // Lookup k, which starts at a byte, unless that was found without faults before.
+    fn check_lookup(&mut self, k: u16, start: usize) -> Result<(), PlacedFault>
+        ensures answer { placed_verdict result ≡ first_in (lookup_faults self.old.table self.old.lookups k start) }
+        ensures same { self.new ≡ self.old }
+    {
+        if self.is_remembered(Kind::Lookup, start) {
+            return Ok(());
+        }
+        let lookup = self.structure(start);
+        in_lookup(k, None).hold(check_lookup_fields(lookup))?;
+        self.check_subtables(k, start, lookup.u16_in(4))?;
+        self.remember(Kind::Lookup, start);
+        Ok(())
+    }
+
+    // Lookup k of the list that starts at a byte.
+    fn check_lookup_at(&mut self, k: u16, list: usize) -> Result<(), PlacedFault>
+        requires { list + 4 + 2 * k ≤ length self.old.table }
+        ensures answer { placed_verdict result ≡ first_in (lookup_faults_at self.old.table self.old.lookups list k (list + 2 + 2 * k)) }
+        ensures same { self.new ≡ self.old }
+    {
+        let lookups = self.structure(list);
+        let at = list + 2 + 2 * usize::from(k);
+        let offset = u16::read(lookups.table, at);
+        if offset == 0 {
+            let answer = lookups.require(false, Rule::Unknown, at);
+            return Place::of(TableName::Gsub).hold(answer);
+        }
+        self.check_lookup(k, list + usize::from(offset))
+    }
+
+    // All lookups, in order.
+    pub(crate) fn check_lookups(&mut self, list: usize) -> Result<(), PlacedFault>
+        requires { list + 2 + 2 * self.old.lookups ≤ length self.old.table }
+        ensures { placed_verdict result ≡ first_in (in_turn (lookup_faults_at self.old.table self.old.lookups list) 2 0 (list + 2) self.old.lookups) }
+    {
+        for k in 0..self.lookups() {
+            self.check_lookup_at(k, list)?;
+        }
+        Ok(())
+    }
 }
 
 // The header. Answers where the lookup list starts.
-fn check_header(table: &[u8]) -> Result<u16, StructureFault>
-    ensures answer { verdict result ≡ first_in (header_faults table.now) }
-    ensures list { IfOk result (λ s. s ≡ u16_at table.now 8) }
+pub(crate) fn check_header(header: Structure<'_>) -> Result<u16, StructureFault>
+    requires { header.start ≡ 0 }
+    ensures answer { verdict result ≡ first_in (header_faults header.entry.table.now) }
+    ensures list { IfOk result (λ s. s ≡ u16_at header.entry.table.now 8) }
 {
-    if u16_field(table, 0, 0)? != 1 {
-        return Err(StructureFault::Broken {
-            rule: Rule::Unknown,
-            start: 0,
-            at: 0,
-        });
-    }
-    if u16_field(table, 0, 2)? > 1 {
-        return Err(StructureFault::Broken {
-            rule: Rule::Unknown,
-            start: 0,
-            at: 2,
-        });
-    }
-    check_fields(table, 0, 4, Width::Two, 3)?;
-    let list = u16_at(table, 8);
-    if list == 0 {
-        return Err(StructureFault::Broken {
-            rule: Rule::Unknown,
-            start: 0,
-            at: 8,
-        });
-    }
+    let major = header.field::<u16>(0)?;
+    header.require(major == 1, Rule::Unknown, 0)?;
+    let minor = header.field::<u16>(2)?;
+    header.require(minor <= 1, Rule::Unknown, 2)?;
+    header.check_fields(4, Width::Two, 3)?;
+    let list = header.u16_in(8);
+    header.require(list != 0, Rule::Unknown, 8)?;
     Ok(list)
 }
 
 // The lookup list's own fields. Answers how many lookups there are.
-fn lookup_count(table: &[u8], list: usize) -> Result<u16, StructureFault>
-    ensures answer { verdict result ≡ first_in (lookup_list_faults table.now list) }
-    ensures count { IfOk result (λ n. (n ≡ u16_at table.now list) × (list + 2 + 2 * n ≤ length table.now)) }
+pub(crate) fn lookup_count(list: Structure<'_>) -> Result<u16, StructureFault>
+    ensures answer { verdict result ≡ first_in (lookup_list_faults list.entry.table.now list.entry.start) }
+    ensures count { IfOk result (λ n. (n ≡ u16_at list.entry.table.now list.entry.start) × (list.entry.start + 2 + 2 * n ≤ length list.entry.table.now)) }
 {
-    let count = u16_field(table, list, list)?;
-    check_fields(table, list, list + 2, Width::Two, count as u64)?;
+    let count = list.field::<u16>(list.start)?;
+    list.check_fields(list.start + 2, Width::Two, u64::from(count))?;
     Ok(count)
-}
-
-// The whole table behind its length. What is remembered goes into memory that is lent, best as long as the table.
-pub(crate) fn check_table(table: &[u8], seen: &mut [u16]) -> Result<(), PlacedFault>
-    ensures { placed_verdict result ≡ first_in (walk_faults table.now) }
-{
-    seen.fill(0);
-    let place = Place::of(TableName::Gsub);
-    let list = place.hold(check_header(table))? as usize;
-    let lookups = place.hold(lookup_count(table, list))?;
-    check_lookups(table, lookups, seen, list)
 }

@@ -1,12 +1,14 @@
 ghost use Rattle.std.specs.Prelude.{◌≡◌, ◌+◌, ◌*◌, ◌≤◌, length, IfOk};
-ghost use Rattle.layout.specs.Bytes.{u16_at};
 ghost use Rattle.layout.specs.Faults.{first_in};
 ghost use Rattle.layout.specs.Told.{verdict};
-ghost use Rattle.gsub.specs.Rules.{Inside, NotRecords, plain_rule, chain_rule, plain_counts, chain_counts, record_faults, rule_faults, chain_rule_faults};
+ghost use Rattle.gsub.specs.Rules.{Inside, NotRecords, plain_rule, chain_rule, rule_of, plain_counts, chain_counts, counts_of, record_faults, rule_faults};
 
-use crate::arrays::{Array, Entries, count_field, counted_array};
-use layout::bytes::{Width, check_fields, u16_at};
+use crate::arrays::{Array, Entries, count_field};
+use crate::follow::Target;
+use crate::walk::Walk;
+use layout::bytes::{Field, Width};
 use layout::fault::{Rule, StructureFault};
+use layout::structure::Structure;
 
 // Where the arrays of a context rule stand.
 #[derive(Clone, Copy)]
@@ -17,110 +19,103 @@ pub(crate) struct RuleArrays {
     pub(crate) records: Array,
 }
 
-// The lookup numbers of a rule's records.
-pub(crate) fn check_records(
-    table: &[u8],
-    lookups: u16,
-    start: usize,
-    records: Array,
-) -> Result<(), StructureFault>
-    requires { records.at + 4 * records.count ≤ length table.now }
-    ensures { verdict result ≡ first_in (record_faults table.now lookups start records.at records.count) }
-{
-    let count = records.count;
-    let mut at = records.at;
-    for _k in 0..count {
-        if u16_at(table, at + 2) >= lookups {
-            return Err(StructureFault::Broken {
-                rule: Rule::Missing,
-                start,
-                at: at + 2,
-            });
+impl RuleArrays {
+    // The rule at a byte of a structure, by its counts and extents: of type 6 if it chains, else of type 5.
+    pub(crate) fn read(
+        chain: bool,
+        structure: Structure<'_>,
+        at: usize,
+        entries: Entries,
+    ) -> Result<RuleArrays, StructureFault>
+        requires { NotRecords entries }
+        ensures answer { verdict result ≡ first_in (counts_of chain structure.entry.table.now structure.entry.start at entries) }
+        ensures rule { IfOk result (λ rule. (rule ≡ rule_of chain structure.entry.table.now at entries) × Inside structure.entry.table.now rule) }
+    {
+        if chain {
+            RuleArrays::chain(structure, at, entries)
+        } else {
+            RuleArrays::plain(structure, at, entries)
         }
-        at += 4;
     }
-    Ok(())
+
+    fn plain(
+        structure: Structure<'_>,
+        at: usize,
+        entries: Entries,
+    ) -> Result<RuleArrays, StructureFault>
+        requires { NotRecords entries }
+        ensures answer { verdict result ≡ first_in (plain_counts structure.entry.table.now structure.entry.start at entries) }
+        ensures rule { IfOk result (λ rule. (rule ≡ plain_rule structure.entry.table.now at entries) × Inside structure.entry.table.now rule) }
+    {
+        let inputs = count_field(structure, at, 1)?;
+        let records = count_field(structure, at + 2, 0)?;
+        let fields = entries.fields(inputs) + 2 * u64::from(records);
+        structure.check_fields(at + 4, Width::Two, fields)?;
+        let none = Array { at, count: 0 };
+        let input = Array {
+            at: at + 4,
+            count: entries.listed(inputs),
+        };
+        Ok(RuleArrays {
+            backtrack: none,
+            input,
+            lookahead: none,
+            records: Array {
+                at: input.past(),
+                count: usize::from(records),
+            },
+        })
+    }
+
+    fn chain(
+        structure: Structure<'_>,
+        at: usize,
+        entries: Entries,
+    ) -> Result<RuleArrays, StructureFault>
+        ensures answer { verdict result ≡ first_in (chain_counts structure.entry.table.now structure.entry.start at entries) }
+        ensures rule { IfOk result (λ rule. (rule ≡ chain_rule structure.entry.table.now at entries) × Inside structure.entry.table.now rule) }
+    {
+        let backtrack = Array::counted(structure, at, 0, Entries::All)?;
+        let input = Array::counted(structure, backtrack.past(), 1, entries)?;
+        let lookahead = Array::counted(structure, input.past(), 0, Entries::All)?;
+        let records = Array::counted(structure, lookahead.past(), 0, Entries::Records)?;
+        Ok(RuleArrays {
+            backtrack,
+            input,
+            lookahead,
+            records,
+        })
+    }
 }
 
-// The rule of type 5 at a byte of the structure at `start`, by its counts and extents.
-pub(crate) fn plain_rule(
-    table: &[u8],
-    start: usize,
-    at: usize,
-    entries: Entries,
-) -> Result<RuleArrays, StructureFault>
-    requires { NotRecords entries }
-    ensures answer { verdict result ≡ first_in (plain_counts table.now start at entries) }
-    ensures rule { IfOk result (λ rule. (rule ≡ plain_rule table.now at entries) × Inside table.now rule) }
-{
-    let inputs = count_field(table, start, at, 1)?;
-    let records = count_field(table, start, at + 2, 0)?;
-    check_fields(
-        table,
-        start,
-        at + 4,
-        Width::Two,
-        entries.fields(inputs) as u64 + 2 * records as u64,
-    )?;
-    let none = Array { at, count: 0 };
-    let input = Array {
-        at: at + 4,
-        count: entries.listed(inputs),
-    };
-    Ok(RuleArrays {
-        backtrack: none,
-        input,
-        lookahead: none,
-        records: Array {
-            at: input.at + 2 * input.count,
-            count: records as usize,
-        },
-    })
+impl Walk<'_> {
+    // The lookup numbers of a rule's records.
+    pub(crate) fn check_records(&self, start: usize, records: Array) -> Result<(), StructureFault>
+        requires { records.at + 4 * records.count ≤ length self.now.table }
+        ensures { verdict result ≡ first_in (record_faults self.now.table self.now.lookups start records.at records.count) }
+    {
+        let structure = self.structure(start);
+        for k in 0..records.count {
+            let at = records.at + 4 * k + 2;
+            let lookup = u16::read(structure.table, at);
+            structure.require(lookup < self.lookups(), Rule::Missing, at)?;
+        }
+        Ok(())
+    }
 }
 
-// The same of type 6.
-pub(crate) fn chain_rule(
-    table: &[u8],
-    start: usize,
-    at: usize,
-    entries: Entries,
-) -> Result<RuleArrays, StructureFault>
-    ensures answer { verdict result ≡ first_in (chain_counts table.now start at entries) }
-    ensures rule { IfOk result (λ rule. (rule ≡ chain_rule table.now at entries) × Inside table.now rule) }
-{
-    let backtrack = counted_array(table, start, at, 0, Entries::All)?;
-    let input = counted_array(table, start, backtrack.at + 2 * backtrack.count, 1, entries)?;
-    let lookahead = counted_array(table, start, input.at + 2 * input.count, 0, Entries::All)?;
-    let records = counted_array(
-        table,
-        start,
-        lookahead.at + 2 * lookahead.count,
-        0,
-        Entries::Records,
-    )?;
-    Ok(RuleArrays {
-        backtrack,
-        input,
-        lookahead,
-        records,
-    })
+// The rules of a set: of type 6 if they chain, else of type 5.
+#[derive(Clone, Copy, Drop)]
+pub(crate) struct Rules {
+    pub(crate) chain: bool,
 }
 
-// A rule of type 5, and one of type 6.
-pub(crate) fn check_rule(table: &[u8], lookups: u16, start: usize) -> Result<(), StructureFault>
-    ensures { verdict result ≡ first_in (rule_faults table.now lookups start) }
-{
-    let rule = plain_rule(table, start, start, Entries::ButFirst)?;
-    check_records(table, lookups, start, rule.records)
-}
+impl Target for Rules {
+    ghost faults = { λ rules walked s. rule_faults rules.chain walked.table walked.lookups s };
 
-pub(crate) fn check_chain_rule(
-    table: &[u8],
-    lookups: u16,
-    start: usize,
-) -> Result<(), StructureFault>
-    ensures { verdict result ≡ first_in (chain_rule_faults table.now lookups start) }
-{
-    let rule = chain_rule(table, start, start, Entries::ButFirst)?;
-    check_records(table, lookups, start, rule.records)
+    fn check(&self, walk: &mut Walk<'_>, start: usize) -> Result<(), StructureFault> {
+        let structure = walk.structure(start);
+        let rule = RuleArrays::read(self.chain, structure, start, Entries::ButFirst)?;
+        walk.check_records(start, rule.records)
+    }
 }

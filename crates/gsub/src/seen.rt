@@ -1,6 +1,6 @@
-ghost use Rattle.std.specs.Prelude.{◌≡◌, ℕ, ◌^◌, ◌<◌, true, List, None};
-ghost use Rattle.layout.specs.Faults.{first_in};
-ghost use Rattle.gsub.specs.Seen.{Sound, faults_of, index, remembered};
+ghost use Rattle.std.specs.Prelude.{◌≡◌, ℕ, ◌^◌, ◌<◌, List, IfSome};
+ghost use Rattle.gsub.specs.Seen.{faults_of, index};
+ghost use Rattle.gsub.specs.Subtables.{subtable_faults};
 
 // The kinds of structures that the walk remembers: those that cost more to walk than to look up.
 #[derive(Clone, Copy)]
@@ -21,40 +21,33 @@ pub(crate) enum Kind {
 }
 
 impl Kind {
-    // A bit of its own.
-    fn bit(self) -> u16
-        ensures { result ≡ 2 ^ index self }
+    // The kind of the subtables of a type.
+    pub(crate) fn of_subtable(lookup_type: u16) -> Option<Kind>
+        ensures { (t : List ℕ) (n s : ℕ) → IfSome result (λ kind. faults_of kind t n s ≡ subtable_faults t n s lookup_type) }
     {
-        match self {
-            Kind::Coverage => 1,
-            Kind::Classes => 2,
-            Kind::LigatureSet => 4,
-            Kind::RuleSet => 8,
-            Kind::ChainRuleSet => 16,
-            Kind::Single => 32,
-            Kind::Multiple => 64,
-            Kind::Alternate => 128,
-            Kind::Ligature => 256,
-            Kind::Context => 512,
-            Kind::Chain => 1024,
-            Kind::Reverse => 2048,
-            Kind::Lookup => 4096,
+        match lookup_type {
+            1 => Some(Kind::Single),
+            2 => Some(Kind::Multiple),
+            3 => Some(Kind::Alternate),
+            4 => Some(Kind::Ligature),
+            5 => Some(Kind::Context),
+            6 => Some(Kind::Chain),
+            8 => Some(Kind::Reverse),
+            _ => None,
         }
     }
-}
 
-// Whether a structure that starts at a byte was found without faults before.
-pub(crate) fn is_remembered(seen: &[u16], kind: Kind, start: usize) -> bool
-    ensures { (t : List ℕ) (n : ℕ) → Sound t n seen.now → result ≡ true → first_in (faults_of kind t n start) ≡ None }
-{
-    start < seen.len() && seen[start] & kind.bit() != 0
-}
+    fn index(self) -> u16
+        ensures index { result ≡ index self }
+        ensures bound { result < 13 }
+    {
+        self as u16
+    }
 
-// Remembers one.
-pub(crate) fn remember(seen: &mut [u16], kind: Kind, start: usize)
-    ensures { (t : List ℕ) (n : ℕ) → Sound t n seen.old → first_in (faults_of kind t n start) ≡ None → Sound t n seen.new }
-{
-    if start < seen.len() {
-        seen[start] |= kind.bit();
+    // A bit of its own.
+    pub(crate) fn bit(self) -> u16
+        ensures { result ≡ 2 ^ index self }
+    {
+        1 << self.index()
     }
 }

@@ -1,289 +1,125 @@
-// The structures that subtables lead to. One whose walk costs more than a look-up is walked once: the walk itself has a name with `Any`.
+// The structures that subtables lead to.
+ghost use Rattle.std.specs.Prelude.{refl};
 ghost use Rattle.layout.specs.Classes.{class_faults};
 ghost use Rattle.layout.specs.Coverages.{coverage_faults};
-ghost use Rattle.gsub.specs.Rules.{rule_faults, chain_rule_faults};
-ghost use Rattle.gsub.specs.Subtables.{sequence_faults, alternates_faults, ligature_faults, ligature_set_faults, rule_set_faults};
+ghost use Rattle.gsub.specs.declared.seen.Kind.TheVariants.{Coverage as CoverageKind, Classes as ClassesKind, LigatureSet as LigatureSetKind};
+ghost use Rattle.gsub.specs.Seen.{rule_set_kind, rule-set-faults};
+ghost use Rattle.gsub.specs.Subtables.{sequence_faults, alternates_faults, ligature_faults};
 
-use crate::arrays::{Entries, counted_array};
-use crate::rules::{check_chain_rule, check_rule};
+use crate::arrays::{Array, Entries};
+use crate::follow::{ListOf, Remembered, Target};
+use crate::rules::Rules;
 use crate::seen::Kind;
-use crate::walk::{Structure, check_list, check_once};
-use layout::bytes::{Width, check_fields, u16_field};
+use crate::walk::Walk;
+use layout::bytes::Width;
 use layout::class::ClassDefinition;
 use layout::coverage::Coverage;
 use layout::fault::StructureFault;
 
-#[derive(Drop)]
-struct AnyCoverage;
-
-impl Structure for AnyCoverage {
-    ghost faults = { λ _ t n s. coverage_faults t s };
-
-    fn check(
-        &self,
-        table: &[u8],
-        _lookups: u16,
-        _seen: &mut [u16],
-        start: usize,
-    ) -> Result<(), StructureFault> {
-        Coverage::check(table, start)?;
-        Ok(())
-    }
-}
-
-#[derive(Drop)]
+#[derive(Clone, Copy, Drop)]
 pub(crate) struct Coverages;
 
-impl Structure for Coverages {
-    ghost faults = { λ _ t n s. coverage_faults t s };
+impl Target for Coverages {
+    ghost faults = { λ _ walked. coverage_faults walked.table };
 
-    fn check(
-        &self,
-        table: &[u8],
-        lookups: u16,
-        seen: &mut [u16],
-        start: usize,
-    ) -> Result<(), StructureFault> {
-        check_once(&AnyCoverage, Kind::Coverage, table, lookups, seen, start)
+    fn check(&self, walk: &mut Walk<'_>, start: usize) -> Result<(), StructureFault> {
+        let structure = walk.structure(start);
+        Coverage { structure }.check()
     }
 }
 
-#[derive(Drop)]
-struct AnyClasses;
+impl Remembered for Coverages {
+    ghost kind = { λ _. CoverageKind };
 
-impl Structure for AnyClasses {
-    ghost faults = { λ _ t n s. class_faults t s };
+    ghost faults_of_kind = { λ _ _ _. refl };
 
-    fn check(
-        &self,
-        table: &[u8],
-        _lookups: u16,
-        _seen: &mut [u16],
-        start: usize,
-    ) -> Result<(), StructureFault> {
-        ClassDefinition { table, start }.check()
+    fn kind(&self) -> Kind {
+        Kind::Coverage
     }
 }
 
-#[derive(Drop)]
+#[derive(Clone, Copy, Drop)]
 pub(crate) struct Classes;
 
-impl Structure for Classes {
-    ghost faults = { λ _ t n s. class_faults t s };
+impl Target for Classes {
+    ghost faults = { λ _ walked. class_faults walked.table };
 
-    fn check(
-        &self,
-        table: &[u8],
-        lookups: u16,
-        seen: &mut [u16],
-        start: usize,
-    ) -> Result<(), StructureFault> {
-        check_once(&AnyClasses, Kind::Classes, table, lookups, seen, start)
+    fn check(&self, walk: &mut Walk<'_>, start: usize) -> Result<(), StructureFault> {
+        let structure = walk.structure(start);
+        ClassDefinition { structure }.check()
+    }
+}
+
+impl Remembered for Classes {
+    ghost kind = { λ _. ClassesKind };
+
+    ghost faults_of_kind = { λ _ _ _. refl };
+
+    fn kind(&self) -> Kind {
+        Kind::Classes
     }
 }
 
 // Sets of type 2, and of type 3.
-#[derive(Drop)]
+#[derive(Clone, Copy, Drop)]
 pub(crate) struct Sequences;
 
-impl Structure for Sequences {
-    ghost faults = { λ _ t n s. sequence_faults t s };
+impl Target for Sequences {
+    ghost faults = { λ _ walked. sequence_faults walked.table };
 
-    fn check(
-        &self,
-        table: &[u8],
-        _lookups: u16,
-        _seen: &mut [u16],
-        start: usize,
-    ) -> Result<(), StructureFault> {
-        counted_array(table, start, start, 1, Entries::All)?;
+    fn check(&self, walk: &mut Walk<'_>, start: usize) -> Result<(), StructureFault> {
+        Array::counted(walk.structure(start), start, 1, Entries::All)?;
         Ok(())
     }
 }
 
-#[derive(Drop)]
+#[derive(Clone, Copy, Drop)]
 pub(crate) struct Alternates;
 
-impl Structure for Alternates {
-    ghost faults = { λ _ t n s. alternates_faults t s };
+impl Target for Alternates {
+    ghost faults = { λ _ walked. alternates_faults walked.table };
 
-    fn check(
-        &self,
-        table: &[u8],
-        _lookups: u16,
-        _seen: &mut [u16],
-        start: usize,
-    ) -> Result<(), StructureFault> {
-        let count = u16_field(table, start, start)?;
-        Ok(check_fields(table, start, start + 2, Width::Two, count as u64)?)
+    fn check(&self, walk: &mut Walk<'_>, start: usize) -> Result<(), StructureFault> {
+        let structure = walk.structure(start);
+        let count = structure.field::<u16>(start)?;
+        Ok(structure.check_fields(start + 2, Width::Two, u64::from(count))?)
     }
 }
 
-#[derive(Drop)]
-struct Ligatures;
+#[derive(Clone, Copy, Drop)]
+pub(crate) struct Ligatures;
 
-impl Structure for Ligatures {
-    ghost faults = { λ _ t n s. ligature_faults t s };
+impl Target for Ligatures {
+    ghost faults = { λ _ walked. ligature_faults walked.table };
 
-    fn check(
-        &self,
-        table: &[u8],
-        _lookups: u16,
-        _seen: &mut [u16],
-        start: usize,
-    ) -> Result<(), StructureFault> {
-        u16_field(table, start, start)?;
-        counted_array(table, start, start + 2, 1, Entries::ButFirst)?;
+    fn check(&self, walk: &mut Walk<'_>, start: usize) -> Result<(), StructureFault> {
+        let structure = walk.structure(start);
+        structure.field::<u16>(start)?;
+        Array::counted(structure, start + 2, 1, Entries::ButFirst)?;
         Ok(())
     }
 }
 
-#[derive(Drop)]
-struct AnyLigatureSet;
+impl Remembered for ListOf<Ligatures> {
+    ghost kind = { λ _. LigatureSetKind };
 
-impl Structure for AnyLigatureSet {
-    ghost faults = { λ _ t n s. ligature_set_faults t s };
+    ghost faults_of_kind = { λ _ _ _. refl };
 
-    fn check(
-        &self,
-        table: &[u8],
-        lookups: u16,
-        seen: &mut [u16],
-        start: usize,
-    ) -> Result<(), StructureFault> {
-        check_list(&Ligatures, table, lookups, seen, start)
+    fn kind(&self) -> Kind {
+        Kind::LigatureSet
     }
 }
 
-#[derive(Drop)]
-pub(crate) struct LigatureSets;
+impl Remembered for ListOf<Rules> {
+    ghost kind = { λ list. rule_set_kind list.0.chain };
 
-impl Structure for LigatureSets {
-    ghost faults = { λ _ t n s. ligature_set_faults t s };
+    ghost faults_of_kind = { λ list walked s. rule-set-faults list.0.chain walked.table walked.lookups s };
 
-    fn check(
-        &self,
-        table: &[u8],
-        lookups: u16,
-        seen: &mut [u16],
-        start: usize,
-    ) -> Result<(), StructureFault> {
-        check_once(
-            &AnyLigatureSet,
-            Kind::LigatureSet,
-            table,
-            lookups,
-            seen,
-            start,
-        )
-    }
-}
-
-#[derive(Drop)]
-struct Rules;
-
-impl Structure for Rules {
-    ghost faults = { λ _ t n s. rule_faults t n s };
-
-    fn check(
-        &self,
-        table: &[u8],
-        lookups: u16,
-        _seen: &mut [u16],
-        start: usize,
-    ) -> Result<(), StructureFault> {
-        check_rule(table, lookups, start)
-    }
-}
-
-#[derive(Drop)]
-struct AnyRuleSet;
-
-impl Structure for AnyRuleSet {
-    ghost faults = { λ _ t n s. rule_set_faults (rule_faults t n) t s };
-
-    fn check(
-        &self,
-        table: &[u8],
-        lookups: u16,
-        seen: &mut [u16],
-        start: usize,
-    ) -> Result<(), StructureFault> {
-        check_list(&Rules, table, lookups, seen, start)
-    }
-}
-
-#[derive(Drop)]
-pub(crate) struct RuleSets;
-
-impl Structure for RuleSets {
-    ghost faults = { λ _ t n s. rule_set_faults (rule_faults t n) t s };
-
-    fn check(
-        &self,
-        table: &[u8],
-        lookups: u16,
-        seen: &mut [u16],
-        start: usize,
-    ) -> Result<(), StructureFault> {
-        check_once(&AnyRuleSet, Kind::RuleSet, table, lookups, seen, start)
-    }
-}
-
-#[derive(Drop)]
-struct ChainRules;
-
-impl Structure for ChainRules {
-    ghost faults = { λ _ t n s. chain_rule_faults t n s };
-
-    fn check(
-        &self,
-        table: &[u8],
-        lookups: u16,
-        _seen: &mut [u16],
-        start: usize,
-    ) -> Result<(), StructureFault> {
-        check_chain_rule(table, lookups, start)
-    }
-}
-
-#[derive(Drop)]
-struct AnyChainRuleSet;
-
-impl Structure for AnyChainRuleSet {
-    ghost faults = { λ _ t n s. rule_set_faults (chain_rule_faults t n) t s };
-
-    fn check(
-        &self,
-        table: &[u8],
-        lookups: u16,
-        seen: &mut [u16],
-        start: usize,
-    ) -> Result<(), StructureFault> {
-        check_list(&ChainRules, table, lookups, seen, start)
-    }
-}
-
-#[derive(Drop)]
-pub(crate) struct ChainRuleSets;
-
-impl Structure for ChainRuleSets {
-    ghost faults = { λ _ t n s. rule_set_faults (chain_rule_faults t n) t s };
-
-    fn check(
-        &self,
-        table: &[u8],
-        lookups: u16,
-        seen: &mut [u16],
-        start: usize,
-    ) -> Result<(), StructureFault> {
-        check_once(
-            &AnyChainRuleSet,
-            Kind::ChainRuleSet,
-            table,
-            lookups,
-            seen,
-            start,
-        )
+    fn kind(&self) -> Kind {
+        if self.0.chain {
+            Kind::ChainRuleSet
+        } else {
+            Kind::RuleSet
+        }
     }
 }

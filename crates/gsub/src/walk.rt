@@ -1,125 +1,76 @@
-ghost use Rattle.std.specs.Prelude.{◌≡◌, ℕ, ◌+◌, ◌*◌, ◌≤◌, List, length};
-ghost use Rattle.layout.specs.Faults.{Fault, first_in};
-ghost use Rattle.layout.specs.Told.{verdict};
-ghost use Rattle.gsub.specs.Follow.{behind, each_behind, list_faults};
-ghost use Rattle.gsub.specs.Rules.{past};
-ghost use Rattle.gsub.specs.Seen.{Sound, faults_of};
+ghost use Rattle.std.specs.Prelude.{◌≡◌, true, IfOk, None};
+ghost use Rattle.layout.specs.Faults.{first_in};
+ghost use Rattle.gsub.specs.Seen.{faults_of};
 
-use crate::arrays::Array;
-use crate::seen::{Kind, is_remembered, remember};
-use layout::bytes::{Width, check_fields, u16_at, u16_field};
-use layout::fault::{Rule, StructureFault};
+use crate::seen::Kind;
+use layout::structure::Structure;
+use std::alloc::{AllocError, Global};
+use std::marker::Model;
 
-// A kind of structure that offsets lead to.
-pub(crate) trait Structure {
-    ghost faults: { Self → List ℕ → ℕ → ℕ → List Fault };
-
-    // The first fault of the structure that starts at a byte, in a table with so many lookups.
-    fn check(
-        &self,
-        table: &[u8],
-        lookups: u16,
-        seen: &mut [u16],
-        start: usize,
-    ) -> Result<(), StructureFault>
-        requires { Sound table.now lookups seen.old }
-        ensures answer { verdict result ≡ first_in (faults self.now table.now lookups start) }
-        ensures sound { Sound table.now lookups seen.new };
+// A walk over a table with so many lookups. It remembers what it found without faults, which changes no answer: contracts see the table and the lookups alone.
+#[derive(Drop)]
+pub(crate) struct Walk<'a> {
+    table: &'a [u8],
+    lookups: u16,
+    // For each byte of the table the kinds of structures that start there, a bit each.
+    seen: Vec<u16>,
 }
 
-// What the offset at a byte leads to.
-pub(crate) fn check_behind<C: Structure>(
-    child: &C,
-    table: &[u8],
-    lookups: u16,
-    seen: &mut [u16],
-    start: usize,
-    at: usize,
-    null: bool,
-) -> Result<(), StructureFault>
-    requires sound { Sound table.now lookups seen.old }
-    requires inside { start ≤ length table.now }
-    ensures answer { verdict result ≡ first_in (behind null table.now start at (C.Structure.faults child.now table.now lookups)) }
-    ensures sound { Sound table.now lookups seen.new }
-{
-    let offset = u16_at(table, at);
-    if offset != 0 {
-        return child.check(table, lookups, seen, start + offset as usize);
-    }
-    if null {
-        return Ok(());
-    }
-    Err(StructureFault::Broken {
-        rule: Rule::Unknown,
-        start,
-        at,
-    })
+impl<'a> Model for Walk<'a> {
+    ghost use Rattle.std.specs.Prelude.{◌^◌, ◌<◌, length};
+    ghost use Rattle.gsub.specs.Follow.{Walked};
+    ghost use Rattle.gsub.specs.Seen.{Sound};
+
+    ghost Value = { Walked };
+
+    ghost view = { λ w. record { table = w.table.now; lookups = w.lookups } };
+
+    ghost invariant = { λ w. Sound w.table.now w.lookups w.seen.items × (length w.table.now < 2 ^ 63) };
 }
 
-// What the offsets of an array lead to, in order.
-pub(crate) fn check_each<C: Structure>(
-    child: &C,
-    table: &[u8],
-    lookups: u16,
-    seen: &mut [u16],
-    start: usize,
-    array: Array,
-    null: bool,
-) -> Result<(), StructureFault>
-    requires sound { Sound table.now lookups seen.old }
-    requires inside { start ≤ length table.now }
-    requires array { past array ≤ length table.now }
-    ensures answer { verdict result ≡ first_in (each_behind null table.now start array.at array.count (C.Structure.faults child.now table.now lookups)) }
-    ensures sound { Sound table.now lookups seen.new }
-{
-    let count = array.count;
-    let mut at = array.at;
-    for _k in 0..count {
-        check_behind(child, table, lookups, seen, start, at, null)?;
-        at += 2;
+impl<'a> Walk<'a> {
+    // At first nothing is remembered.
+    pub(crate) fn new(heap: Global, table: &'a [u8], lookups: u16) -> Result<Walk<'a>, AllocError>
+        ensures { IfOk result (λ walk. (walk.table ≡ table.now) × (walk.lookups ≡ lookups)) }
+    {
+        Ok(Walk {
+            table,
+            lookups,
+            seen: vec![in heap; 0u16; table.len()]?,
+        })
     }
-    Ok(())
-}
 
-// A structure that is a count and offsets.
-pub(crate) fn check_list<C: Structure>(
-    child: &C,
-    table: &[u8],
-    lookups: u16,
-    seen: &mut [u16],
-    start: usize,
-) -> Result<(), StructureFault>
-    requires { Sound table.now lookups seen.old }
-    ensures answer { verdict result ≡ first_in (list_faults table.now start (C.Structure.faults child.now table.now lookups)) }
-    ensures sound { Sound table.now lookups seen.new }
-{
-    let count = u16_field(table, start, start)?;
-    check_fields(table, start, start + 2, Width::Two, count as u64)?;
-    let offsets = Array {
-        at: start + 2,
-        count: count as usize,
-    };
-    check_each(child, table, lookups, seen, start, offsets, false)
-}
-
-// Walks a structure, unless one of its kind that starts there was found without faults before.
-pub(crate) fn check_once<C: Structure>(
-    child: &C,
-    kind: Kind,
-    table: &[u8],
-    lookups: u16,
-    seen: &mut [u16],
-    start: usize,
-) -> Result<(), StructureFault>
-    requires sound { Sound table.now lookups seen.old }
-    requires kind { (t : List ℕ) (n s : ℕ) → faults_of kind t n s ≡ C.Structure.faults child.now t n s }
-    ensures answer { verdict result ≡ first_in (C.Structure.faults child.now table.now lookups start) }
-    ensures sound { Sound table.now lookups seen.new }
-{
-    if is_remembered(seen, kind, start) {
-        return Ok(());
+    // The structure that starts at a byte.
+    pub(crate) fn structure(&self, start: usize) -> Structure<'a>
+        ensures table { result.table.now ≡ self.now.table }
+        ensures start { result.start ≡ start }
+    {
+        Structure {
+            table: self.table,
+            start,
+        }
     }
-    child.check(table, lookups, seen, start)?;
-    remember(seen, kind, start);
-    Ok(())
+
+    pub(crate) fn lookups(&self) -> u16
+        ensures { result ≡ self.now.lookups }
+    {
+        self.lookups
+    }
+
+    // Whether a structure that starts at a byte was found without faults before.
+    pub(crate) fn is_remembered(&self, kind: Kind, start: usize) -> bool
+        ensures { result ≡ true → first_in (faults_of kind self.now.table self.now.lookups start) ≡ None }
+    {
+        start < self.seen.len() && self.seen[start] & kind.bit() != 0
+    }
+
+    // Remembers one.
+    pub(crate) fn remember(&mut self, kind: Kind, start: usize)
+        requires { first_in (faults_of kind self.old.table self.old.lookups start) ≡ None }
+        ensures { self.new ≡ self.old }
+    {
+        if start < self.seen.len() {
+            self.seen[start] |= kind.bit();
+        }
+    }
 }
