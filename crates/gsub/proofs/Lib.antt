@@ -1,4 +1,3 @@
-mod Bits
 mod Examples
 mod Placed
 mod Remembers

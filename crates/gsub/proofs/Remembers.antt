@@ -4,11 +4,11 @@ use lib.Bits.{bit_and, bit_or, and_zero_l}
 use lib.ListN.{get_or-replicate, length-replicate}
 use Rattle.std.proofs.lemmas.List.{get_or_past}
 use Rattle.std.proofs.lemmas.Bool.Decides.{nat_tests}
+use Rattle.std.proofs.lemmas.Nat.{and_or_apart, pow_apart}
 use Rattle.layout.specs.Faults.{first_in}
 use Rattle.gsub.specs.declared.seen.Kind.{Kind}
 use Rattle.gsub.specs.declared.seen.Kind.TheVariants.{Coverage, Classes, LigatureSet, RuleSet, ChainRuleSet, Single, Multiple, Alternate, Ligature, Context, Chain, Reverse, Lookup}
 use Rattle.gsub.specs.Seen.{faults_of, index, remembered, Sound}
-use Rattle.gsub.proofs.Bits.{other-bit}
 
 pub sound-at : (t : List ℕ) (n : ℕ) (seen : List ℕ) (kind : Kind) (s : ℕ) → Sound t n seen → remembered seen kind s ≡ true → first_in (faults_of kind t n s) ≡ None
 unfolding Sound
@@ -42,7 +42,7 @@ same_kind j k e = sym (kind-of-index j) ∙ ap kind_at e ∙ kind-of-index k
 set_before : (x k j : ℕ) (b : Bool) → eqb (bit_and x (2 ^ j)) 0 ≡ b → (j ≡ k → ⊥) → not (eqb (bit_and (bit_or x (2 ^ k)) (2 ^ j)) 0) ≡ true → not (eqb (bit_and x (2 ^ j)) 0) ≡ true
 set_before x k j false e ne h = ap not e
 set_before x k j true e ne h =
-    let z = other-bit x k j ne (grind (arith, nat_tests)) in
+    let z = and_or_apart (2 ^ j) x (2 ^ k) (pow_apart k j (λ q. ne (sym q))) in
     grind (arith, nat_tests)
 
 module _ (t : List ℕ) (n : ℕ) (seen : List ℕ) (kind : Kind) (s : ℕ) (inside : s < length seen) (sound : Sound t n seen) (clean : first_in (faults_of kind t n s) ≡ None) where

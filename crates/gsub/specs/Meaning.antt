@@ -1,13 +1,21 @@
 -- What a GSUB table without faults means: its lookups, by number.
-use Rattle.std.specs.Prelude.{ℕ, ◌+◌, ◌*◌, cond, List, [], ◌∷◌, ◌++◌, ◌==◌}
+use Rattle.std.specs.Prelude.{ℕ, ◌+◌, ◌*◌, cond, List, [], ◌∷◌, ◌++◌, ◌==◌, if◌then◌else◌, nat_lt, sum_by}
+use Rattle.std.specs.List.{range_with_len}
 use Rattle.layout.specs.Bytes.{u16_at, u32_at}
 use Rattle.model.specs.Lookups.{Candidate, Lookup}
 use Rattle.gsub.specs.Candidates.{fields, subtable_candidates}
-use Rattle.gsub.specs.Tables.{moved_type}
+use Rattle.gsub.specs.Tables.{lookup_count, moved_type}
 
 -- Where lookup number k starts.
 abbrev pub lookup_at : (table : List ℕ) → (k : ℕ) → ℕ
 lookup_at t k = u16_at t 8 + u16_at t (u16_at t 8 + 2 + 2 * k)
+
+-- How many subtables lookup k has, 0 for a lookup that does not exist; and how many all lookups have.
+abbrev pub subtable_count : (table : List ℕ) → (k : ℕ) → ℕ
+subtable_count t k = (if nat_lt k (lookup_count t) then u16_at t (lookup_at t k + 4) else 0)
+
+abbrev pub all_subtables : (table : List ℕ) → ℕ
+all_subtables t = sum_by (subtable_count t) (range_with_len 0 (lookup_count t))
 
 -- The type of the lookup at s; an extension's is that of what it moves.
 abbrev pub type_at : (table : List ℕ) → (s : ℕ) → ℕ

@@ -1,6 +1,5 @@
-ghost use Rattle.std.specs.Prelude.{◌≡◌, ◌+◌, ◌*◌, if◌then◌else◌, IfOk, nat_lt};
-ghost use Rattle.layout.specs.Bytes.{u16_at};
-ghost use Rattle.gsub.specs.Meaning.{lookup_at};
+ghost use Rattle.std.specs.Prelude.{◌≡◌, IfOk};
+ghost use Rattle.gsub.specs.Meaning.{all_subtables, subtable_count};
 ghost use Rattle.gsub.specs.Tables.{gsub_faults, walk_faults, lookup_count};
 ghost use Rattle.gsub.specs.Told.{Right, kept, of_fault, of_memory, of_placed, told};
 
@@ -49,7 +48,7 @@ fn check_behind_length(heap: Global, table: &[u8]) -> Result<(), CheckError>
     ensures { Right (walk_faults table.now) (told result) }
 {
     let place = Place::of(TableName::Gsub);
-    let start = usize::from(place.hold(check_header(Structure { table, start: 0 }))?);
+    let start = usize::from(place.hold(check_header(table))?);
     let lookups = place.hold(lookup_count(Structure { table, start }))?;
     let mut walk = Walk::new(heap, table, lookups)?;
     Ok(walk.check_lookups(start)?)
@@ -99,7 +98,7 @@ impl<'a> Gsub<'a> {
 
     // How many subtables a lookup has; 0 for a lookup that does not exist.
     pub fn subtable_count(&self, lookup: u16) -> u16
-        ensures { result ≡ (if nat_lt lookup (lookup_count self.now.table.now) then u16_at self.now.table.now (lookup_at self.now.table.now lookup + 4) else 0) }
+        ensures { result ≡ subtable_count self.now.table.now lookup }
     {
         if lookup >= self.lookup_count() {
             return 0;
@@ -107,5 +106,14 @@ impl<'a> Gsub<'a> {
         let list = usize::from(u16::read(self.table, 8));
         let offset = u16::read(self.table, list + 2 + 2 * usize::from(lookup));
         u16::read(self.table, list + usize::from(offset) + 4)
+    }
+
+    // How many subtables all lookups have.
+    pub fn subtables(&self) -> u64
+        ensures { result ≡ all_subtables self.now.table.now }
+    {
+        (0..self.lookup_count())
+            .map(|lookup| u64::from(self.subtable_count(lookup)))
+            .sum()
     }
 }

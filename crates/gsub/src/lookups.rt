@@ -14,7 +14,7 @@ use layout::structure::Structure;
 fn is_movable(lookup_type: u16) -> bool
     ensures { result ≡ movable lookup_type }
 {
-    matches!(lookup_type, 1..=6 | 8)
+    Kind::of_subtable(lookup_type).is_some()
 }
 
 // The type and the offset of an extension.
@@ -167,11 +167,11 @@ impl Walk<'_> {
 }
 
 // The header. Answers where the lookup list starts.
-pub(crate) fn check_header(header: Structure<'_>) -> Result<u16, StructureFault>
-    requires { header.start ≡ 0 }
-    ensures answer { verdict result ≡ first_in (header_faults header.entry.table.now) }
-    ensures list { IfOk result (λ s. s ≡ u16_at header.entry.table.now 8) }
+pub(crate) fn check_header(table: &[u8]) -> Result<u16, StructureFault>
+    ensures answer { verdict result ≡ first_in (header_faults table.now) }
+    ensures list { IfOk result (λ s. s ≡ u16_at table.now 8) }
 {
+    let header = Structure { table, start: 0 };
     let major = header.field::<u16>(0)?;
     header.require(major == 1, Rule::Unknown, 0)?;
     let minor = header.field::<u16>(2)?;

@@ -1,6 +1,7 @@
-ghost use Rattle.std.specs.Prelude.{◌≡◌, ℕ, ◌^◌, ◌<◌, List, IfSome};
+ghost use Rattle.std.specs.Prelude.{◌≡◌, ℕ, ◌^◌, ◌<◌, List, IfSome, is_some};
 ghost use Rattle.gsub.specs.Seen.{faults_of, index};
 ghost use Rattle.gsub.specs.Subtables.{subtable_faults};
+ghost use Rattle.gsub.specs.Tables.{movable};
 
 // The kinds of structures that the walk remembers: those that cost more to walk than to look up.
 #[derive(Clone, Copy)]
@@ -23,7 +24,8 @@ pub(crate) enum Kind {
 impl Kind {
     // The kind of the subtables of a type.
     pub(crate) fn of_subtable(lookup_type: u16) -> Option<Kind>
-        ensures { (t : List ℕ) (n s : ℕ) → IfSome result (λ kind. faults_of kind t n s ≡ subtable_faults t n s lookup_type) }
+        ensures movable { is_some result ≡ movable lookup_type }
+        ensures faults { (t : List ℕ) (n s : ℕ) → IfSome result (λ kind. faults_of kind t n s ≡ subtable_faults t n s lookup_type) }
     {
         match lookup_type {
             1 => Some(Kind::Single),

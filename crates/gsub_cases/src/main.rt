@@ -5,7 +5,6 @@
 
 use gsub::check::CheckError;
 use gsub::table::Gsub;
-use layout::fault::{TableFault, TableName};
 use std::alloc::{AllocError, Global};
 use std::io;
 use std::io::{BufRead, BufReader};
@@ -30,47 +29,21 @@ fn bytes_of(heap: Global, words: &str, length: usize) -> Result<Vec<u8>, AllocEr
     Ok(bytes)
 }
 
-fn tag(table: TableName) -> &'static str {
-    match table {
-        TableName::Cmap => "cmap",
-        TableName::Gdef => "GDEF",
-        TableName::Hmtx => "hmtx",
-        TableName::Gsub => "GSUB",
-    }
-}
-
-fn print_fault(rt: &HostRuntime, name: &str, fault: TableFault) -> io::Result<()> {
-    let report = fault.told();
-    let number = report.number;
-    let table = tag(report.place.table);
-    let lookup = report.place.lookup;
-    let subtable = report.place.subtable;
-    let start = report.start;
-    let byte = report.byte;
-    println!(rt;
-        "{name}: fault {number} table {table} lookup {lookup} subtable {subtable} structure {start} byte {byte}"
-    )
-}
-
-fn print_counts(rt: &HostRuntime, name: &str, gsub: &Gsub<'_>) -> io::Result<()> {
-    let lookups = gsub.lookup_count();
-    let mut subtables = 0u64;
-    for lookup in 0..lookups {
-        subtables = subtables.wrapping_add(u64::from(gsub.subtable_count(lookup)));
-    }
-    println!(rt; "{name}: accepted, {lookups} lookups, {subtables} subtables")
-}
-
 fn case(rt: &HostRuntime, line: &str) -> io::Result<()> {
     let mut parts = line.split('|');
     let name = parts.next().unwrap_or("").trim();
     let words = parts.next().unwrap_or("");
     let length = parts.next().unwrap_or("").trim().parse::<usize>();
     let bytes = bytes_of(rt.alloc(), words, length.unwrap_or(usize::MAX))?;
-    let mut gsub = Gsub::new();
-    match gsub.read(rt.alloc(), bytes.as_slice()) {
-        Ok(_) => print_counts(rt, name, &gsub),
-        Err(CheckError::Fault(fault)) => print_fault(rt, name, fault),
+    match Gsub::checked(rt.alloc(), bytes.as_slice()) {
+        Ok(gsub) => {
+            let (lookups, subtables) = (gsub.lookup_count(), gsub.subtables());
+            println!(rt; "{name}: accepted, {lookups} lookups, {subtables} subtables")
+        }
+        Err(CheckError::Fault(fault)) => {
+            let report = fault.told();
+            println!(rt; "{name}: {report}")
+        }
         Err(CheckError::Memory) => println!(rt; "{name}: no memory"),
     }
 }
