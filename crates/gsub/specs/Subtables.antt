@@ -52,17 +52,13 @@ class_count true = 3
 abbrev pub rule_set_faults : (rule : Faults) → (table : List ℕ) → (s : ℕ) → List Fault
 rule_set_faults rule t s = list_faults t s rule
 
-module _ (t : List ℕ) (lookups s : ℕ) where
+module _ (t : List ℕ) (s : ℕ) where
   -- Types 5 and 6, format 2: coverage, n class definitions, and a rule set for each class of the input. A class definition or a set may be missing.
   abbrev pub class_sets : (n : ℕ) → (sets : Faults) → List Fault
   class_sets n sets =
       extent t s (s + 2) 2 (n + 2)
       ++ (extent t s (s + 6 + 2 * n) 2 (u16_at t (s + 4 + 2 * n))
       ++ (coverage_of t s ++ (each_behind true t s (s + 4) n (class_faults t) ++ each_behind true t s (s + 6 + 2 * n) (u16_at t (s + 4 + 2 * n)) sets)))
-
-  -- Format 3: one rule whose entries are coverages.
-  abbrev pub one_rule : (counts : List Fault) → RuleArrays → List Fault
-  one_rule counts r = counts ++ (records_of t lookups s r ++ context_coverages t s r)
 
   -- Type 8: coverage; backtrack and lookahead coverages, 0 to 64 each; a glyph for each index.
   abbrev pub backtrack_array : Array
@@ -81,6 +77,11 @@ module _ (t : List ℕ) (lookups s : ℕ) where
   abbrev pub reverse_faults : List Fault
   reverse_faults = reverse_arrays ++ (coverage_of t s ++ (enough t s (past lookahead_array) ++ (coverages t s backtrack_array ++ coverages t s lookahead_array)))
 
+module _ (t : List ℕ) (lookups s : ℕ) where
+  -- Format 3: one rule whose entries are coverages.
+  abbrev pub one_rule : (counts : List Fault) → RuleArrays → List Fault
+  one_rule counts r = counts ++ (records_of t lookups s r ++ context_coverages t s r)
+
   -- The faults of a form behind the format. Type 1, format 1, has a coverage and a delta; format 2 a glyph for each index. Types 5 and 6, format 1, have a rule set for each index, and one may be missing.
   abbrev pub form_faults : Form → List Fault
   form_faults delta = extent t s (s + 2) 2 2 ++ coverage_of t s
@@ -89,9 +90,9 @@ module _ (t : List ℕ) (lookups s : ℕ) where
   form_faults alternate = sets_faults false t s (alternates_faults t)
   form_faults ligature = sets_faults false t s (ligature_set_faults t)
   form_faults (glyph_rules chain) = sets_faults true t s (rule_set_faults (rule_faults chain t lookups) t)
-  form_faults (class_rules chain) = class_sets (class_count chain) (rule_set_faults (rule_faults chain t lookups) t)
+  form_faults (class_rules chain) = class_sets t s (class_count chain) (rule_set_faults (rule_faults chain t lookups) t)
   form_faults (coverage_rule chain) = one_rule (counts_of chain t s (s + 2) All) (rule_of chain t (s + 2) All)
-  form_faults reverse = reverse_faults
+  form_faults reverse = reverse_faults t s
 
   abbrev pub by_form : Option Form → List Fault
   by_form None = unless false 2 s s

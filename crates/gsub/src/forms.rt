@@ -35,19 +35,18 @@ fn check_enough(subtable: Structure<'_>, at: usize) -> Result<(), StructureFault
     subtable.require(glyphs <= entries, Rule::Bounds, at)
 }
 
-// The arrays of type 8: backtrack and lookahead coverages, and the count of its glyphs.
+// The arrays of type 8: backtrack and lookahead coverages. The count of its glyphs stands just past them.
 #[derive(Clone, Copy)]
 struct ReverseArrays {
     backtrack: Array,
     lookahead: Array,
-    count_at: usize,
 }
 
 impl ReverseArrays {
     fn read(subtable: Structure<'_>) -> Result<ReverseArrays, StructureFault>
         requires { subtable.start + 2 ≤ length subtable.table.now }
-        ensures answer { verdict result ≡ first_in (reverse_arrays subtable.entry.table.now 0 subtable.entry.start) }
-        ensures arrays { IfOk result (λ a. (a.backtrack ≡ backtrack_array subtable.entry.table.now 0 subtable.entry.start) × (past a.backtrack ≤ length subtable.entry.table.now) × (a.lookahead ≡ lookahead_array subtable.entry.table.now 0 subtable.entry.start) × (past a.lookahead ≤ length subtable.entry.table.now) × (a.count_at ≡ past a.lookahead)) }
+        ensures answer { verdict result ≡ first_in (reverse_arrays subtable.entry.table.now subtable.entry.start) }
+        ensures arrays { IfOk result (λ a. (a.backtrack ≡ backtrack_array subtable.entry.table.now subtable.entry.start) × (past a.backtrack ≤ length subtable.entry.table.now) × (a.lookahead ≡ lookahead_array subtable.entry.table.now subtable.entry.start) × (past a.lookahead ≤ length subtable.entry.table.now)) }
     {
         subtable.check_fields(subtable.start + 2, Width::Two, 1)?;
         let backtrack = Array::counted(subtable, subtable.start + 4, 0, Entries::All)?;
@@ -58,12 +57,20 @@ impl ReverseArrays {
         Ok(ReverseArrays {
             backtrack,
             lookahead,
-            count_at,
         })
     }
 }
 
 impl Walk<'_> {
+    // The coverage of the subtable at `start`.
+    fn check_coverage(&mut self, start: usize) -> Result<(), StructureFault>
+        requires { start + 2 ≤ length self.old.table }
+        ensures answer { verdict result ≡ first_in (coverage_of self.old.table start) }
+        ensures same { self.new ≡ self.old }
+    {
+        self.check_behind(&Once(Coverages), self.structure(start), start + 2, false)
+    }
+
     // Coverage, count and an array that is indexed by the coverage.
     fn check_indexed(&mut self, start: usize) -> Result<(), StructureFault>
         requires { start + 2 ≤ length self.old.table }
@@ -75,7 +82,7 @@ impl Walk<'_> {
         subtable.check_fields(start + 2, Width::Two, 2)?;
         let count = subtable.u16_in(4);
         subtable.check_fields(start + 6, Width::Two, u64::from(count))?;
-        self.check_behind(&Once(Coverages), subtable, start + 2, false)?;
+        self.check_coverage(start)?;
         check_enough(subtable, start + 4)
     }
 
@@ -108,7 +115,7 @@ impl Walk<'_> {
     ) -> Result<(), StructureFault>
         requires inside { start + 2 ≤ length self.old.table }
         requires few { classes ≤ 3 }
-        ensures answer { verdict result ≡ first_in (class_sets self.old.table self.old.lookups start classes (C.Target.faults sets.now self.old)) }
+        ensures answer { verdict result ≡ first_in (class_sets self.old.table start classes (C.Target.faults sets.now self.old)) }
         ensures same { self.new ≡ self.old }
     {
         let subtable = self.structure(start);
@@ -122,7 +129,7 @@ impl Walk<'_> {
             count: usize::from(subtable.u16_in(4 + 2 * classes)),
         };
         subtable.check_fields(offsets.at, Width::Two, offsets.count as u64)?;
-        self.check_behind(&Once(Coverages), subtable, start + 2, false)?;
+        self.check_coverage(start)?;
         self.check_each(&Once(Classes), subtable, definitions, true)?;
         self.check_each(sets, subtable, offsets, true)
     }
@@ -153,33 +160,28 @@ impl Walk<'_> {
     }
 
     // The coverages before and after the glyph.
-    fn check_around(
-        &mut self,
-        backtrack: Array,
-        lookahead: Array,
-        start: usize,
-    ) -> Result<(), StructureFault>
+    fn check_around(&mut self, arrays: ReverseArrays, start: usize) -> Result<(), StructureFault>
         requires inside { start ≤ length self.old.table }
-        requires backtrack { past backtrack ≤ length self.old.table }
-        requires lookahead { past lookahead ≤ length self.old.table }
-        ensures answer { verdict result ≡ first_in (coverages self.old.table start backtrack ++ coverages self.old.table start lookahead) }
+        requires backtrack { past arrays.backtrack ≤ length self.old.table }
+        requires lookahead { past arrays.lookahead ≤ length self.old.table }
+        ensures answer { verdict result ≡ first_in (coverages self.old.table start arrays.backtrack ++ coverages self.old.table start arrays.lookahead) }
         ensures same { self.new ≡ self.old }
     {
         let subtable = self.structure(start);
-        self.check_each(&Once(Coverages), subtable, backtrack, false)?;
-        self.check_each(&Once(Coverages), subtable, lookahead, false)
+        self.check_each(&Once(Coverages), subtable, arrays.backtrack, false)?;
+        self.check_each(&Once(Coverages), subtable, arrays.lookahead, false)
     }
 
     fn check_reverse(&mut self, start: usize) -> Result<(), StructureFault>
         requires { start + 2 ≤ length self.old.table }
-        ensures answer { verdict result ≡ first_in (reverse_faults self.old.table self.old.lookups start) }
+        ensures answer { verdict result ≡ first_in (reverse_faults self.old.table start) }
         ensures same { self.new ≡ self.old }
     {
         let subtable = self.structure(start);
         let arrays = ReverseArrays::read(subtable)?;
-        self.check_behind(&Once(Coverages), subtable, start + 2, false)?;
-        check_enough(subtable, arrays.count_at)?;
-        self.check_around(arrays.backtrack, arrays.lookahead, start)
+        self.check_coverage(start)?;
+        check_enough(subtable, arrays.lookahead.past())?;
+        self.check_around(arrays, start)
     }
 
     fn check_delta(&mut self, start: usize) -> Result<(), StructureFault>
@@ -189,7 +191,7 @@ impl Walk<'_> {
     {
         let subtable = self.structure(start);
         subtable.check_fields(start + 2, Width::Two, 2)?;
-        self.check_behind(&Once(Coverages), subtable, start + 2, false)
+        self.check_coverage(start)
     }
 
     // What stands behind the format of a subtable, by its form.

@@ -48,7 +48,7 @@ fn check_lookup_fields(lookup: Structure<'_>) -> Result<(), StructureFault>
     lookup.require(1 <= lookup_type && lookup_type <= 8, Rule::Unknown, start)?;
     lookup.check_fields(start + 2, Width::Two, 2)?;
     let count = u64::from(lookup.u16_in(4));
-    let mark_sets = if has_mark_set(lookup) { 1 } else { 0 };
+    let mark_sets = u64::from(has_mark_set(lookup));
     Ok(lookup.check_fields(start + 6, Width::Two, count + mark_sets)?)
 }
 

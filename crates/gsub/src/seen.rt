@@ -1,4 +1,4 @@
-ghost use Rattle.std.specs.Prelude.{◌≡◌, ℕ, ◌^◌, ◌<◌, List, IfSome, is_some};
+ghost use Rattle.std.specs.Prelude.{◌≡◌, ℕ, ◌^◌, List, IfSome, is_some};
 ghost use Rattle.gsub.specs.Seen.{faults_of, index};
 ghost use Rattle.gsub.specs.Subtables.{subtable_faults};
 ghost use Rattle.gsub.specs.Tables.{movable};
@@ -39,17 +39,10 @@ impl Kind {
         }
     }
 
-    fn index(self) -> u16
-        ensures index { result ≡ index self }
-        ensures bound { result < 13 }
-    {
-        self as u16
-    }
-
     // A bit of its own.
     pub(crate) fn bit(self) -> u16
         ensures { result ≡ 2 ^ index self }
     {
-        1 << self.index()
+        1 << (self as u16)
     }
 }

@@ -10,4 +10,5 @@ pub sum-requires-clause-fits : goal.sum-requires-clause-fits
 sum-requires-clause-fits c =
     let n = c.lookup_count.result in
     let few : length (range_with_len 0 n) ≤ 65535 = omega (arith, length-range_with_len 0 n) in
-    fits_from_length _ _ 65535 (2 ^ 64) (at_most_from_yields_List (YieldsList-from_range 0 n n c.map.ensures.source (omega arith)) few) c.map.ensures.closure (omega arith) (λ x r q k. search rules)
+    let road = YieldsList-from_range 0 n n c.map.ensures.source (omega arith) in
+    fits_from_length _ _ 65535 (2 ^ 64) (at_most_from_yields_List road few) c.map.ensures.closure (omega arith) (λ x r q k. search rules)
