@@ -38,18 +38,15 @@ kind-of-index Lookup = refl
 same_kind : (j k : Kind) → index j ≡ index k → j ≡ k
 same_kind j k e = sym (kind-of-index j) ∙ ap kind_at e ∙ kind-of-index k
 
--- bit j of x with bit k more
-set_before : (x k j : ℕ) (b : Bool) → eqb (bit_and x (2 ^ j)) 0 ≡ b → (j ≡ k → ⊥) → not (eqb (bit_and (bit_or x (2 ^ k)) (2 ^ j)) 0) ≡ true → not (eqb (bit_and x (2 ^ j)) 0) ≡ true
-set_before x k j false e ne h = ap not e
-set_before x k j true e ne h =
-    let z = and_or_apart (2 ^ j) x (2 ^ k) (pow_apart k j (λ q. ne (sym q))) in
-    grind (arith, nat_tests)
+-- bit j of x with bit k more is bit j of x
+set_before : (x k j : ℕ) → (j ≡ k → ⊥) → not (eqb (bit_and (bit_or x (2 ^ k)) (2 ^ j)) 0) ≡ true → not (eqb (bit_and x (2 ^ j)) 0) ≡ true
+set_before x k j apart h = rw (and_or_apart (2 ^ j) x (2 ^ k) (pow_apart k j (λ e. apart (sym e)))) at h
 
 module _ (t : List ℕ) (n : ℕ) (seen : List ℕ) (kind : Kind) (s : ℕ) (inside : s < length seen) (sound : Sound t n seen) (clean : first_in (faults_of kind t n s) ≡ None) where
   here-by : (other : Kind) (b : Bool) → eqb (index other) (index kind) ≡ b → not (eqb (bit_and (bit_or (get_or seen s 0) (2 ^ index kind)) (2 ^ index other)) 0) ≡ true → first_in (faults_of other t n s) ≡ None
   here-by other true e h = subst (λ k. first_in (faults_of k t n s) ≡ None) (sym (same_kind other kind (grind (arith, nat_tests)))) clean
   here-by other false e h =
-      sound-at t n seen other s sound (set_before (get_or seen s 0) (index kind) (index other) (eqb (bit_and (get_or seen s 0) (2 ^ index other)) 0) refl (grind (arith, nat_tests)) h)
+      sound-at t n seen other s sound (set_before (get_or seen s 0) (index kind) (index other) (grind (arith, nat_tests)) h)
 
   at-by : (other : Kind) (q : ℕ) (b : Bool) → eqb q s ≡ b → remembered (set seen s (bit_or (get_or seen s 0) (2 ^ index kind))) other q ≡ true → first_in (faults_of other t n q) ≡ None
   at-by other q true e h =

@@ -58,7 +58,7 @@ chain_counts t s i entries =
     ++ (counted_array t s (past (chain_rule t i entries).backtrack) 1 entries
     ++ (counted_array t s (past (chain_rule t i entries).input) 0 All ++ counted_array t s (past (chain_rule t i entries).lookahead) 0 Records))
 
--- The lookup numbers of n records from byte i on: each names one of the table's lookups.
+-- The lookup numbers of n records from byte i on, and of a rule's records: each names one of the table's lookups.
 abbrev pub record_faults : (table : List ℕ) → (lookups s i n : ℕ) → List Fault
 record_faults t lookups s i n = in_turn (λ k b. unless (nat_lt (u16_at t (b + 2)) lookups) 5 s (b + 2)) 4 0 i n
 
