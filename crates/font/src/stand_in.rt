@@ -1,23 +1,11 @@
-ghost use Rattle.std.specs.Prelude.{◌≡◌, [], ◌∷◌, ◌++◌, length, if◌then◌else◌, Ok, Err, ◌==◌, nat_lt};
+ghost use Rattle.std.specs.Prelude.{◌≡◌, [], ◌∷◌, ◌++◌, length, if◌then◌else◌, Ok, Err, nat_lt};
 ghost use Rattle.font.specs.Told.{gave, refused, told};
 ghost use Rattle.font.specs.StandIn.{pairs_of, stand_in_font};
 
 use crate::pairs::{Pair, PairTable};
 use crate::refusal::Refusal;
-use crate::search::{Test, first_that};
+use crate::search::first_that;
 use crate::source::{FontSource, MeasuredSource};
-
-// The pairs for a character.
-#[derive(Drop)]
-struct ForCharacter(u32);
-
-impl Test<Pair> for ForCharacter {
-    ghost passes = { λ q pair. (pair.character == q.0) };
-
-    fn test(&self, pair: &Pair) -> bool {
-        pair.character == self.0
-    }
-}
 
 impl PairTable {
     pub fn new() -> PairTable
@@ -69,7 +57,7 @@ impl<S: FontSource> FontSource for StandIn<S> {
         if own != 0 {
             return own;
         }
-        match first_that(self.table.pairs(), &ForCharacter(character)) {
+        match first_that(self.table.pairs(), |pair| pair.character == character) {
             Some(pair) => self.below.glyph(pair.stand_in),
             None => 0,
         }

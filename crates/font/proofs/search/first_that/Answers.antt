@@ -1,20 +1,17 @@
-use Rattle.std.proofs.Common.{arith}
-use Rattle.std.proofs.lemmas.List.{at_drop_more, at_drop_all}
-use Rattle.std.proofs.lemmas.Bool.Decides.{nat_tests}
-use Rattle.font.specs.Search.{first_that}
+use Rattle.std.proofs.Common.{◌≡◌, Option, Some, None, refl, sym, ◌∙◌, of_calls}
+use Rattle.std.specs.Option.{option_map}
+use Rattle.std.proofs.lemmas.Iterator.{YieldsList-from_slice}
+use Rattle.std.proofs.lemmas.Iterator.Consumers.{YieldsList-from_copied}
+use Rattle.std.proofs.lemmas.Iterator.Search.{find_from_yields_List}
+use Rattle.font.proofs.Finds.{find-first_that}
 use Rattle.font.proofs.search.first_that.Goals as goal
 
-pub returns-then-test : goal.returns-then-test
-returns-then-test g c =
-    let s = at_drop_more (first_that (g.Q.Test.passes c.args.q.now)) c.args.items.now c.loop-x.x-index c.x-item.result (omega arith) in
-    grind (arith, nat_tests)
-
-pub loop-x-preserved : goal.loop-x-preserved
-loop-x-preserved g c =
-    let s = at_drop_more (first_that (g.Q.Test.passes c.args.q.now)) c.args.items.now c.loop-x.x-index c.x-item.result (omega arith) in
-    grind (arith, nat_tests)
+same_option : {X : Type 0} (o : Option X) → option_map (λ x. x) o ≡ o
+same_option None = refl
+same_option (Some x) = refl
 
 pub returns : goal.returns
-returns g c =
-    let s = at_drop_all (first_that (g.Q.Test.passes c.args.q.now)) c.args.items.now c.loop-x.x-index (omega arith) in
-    grind (arith, nat_tests)
+returns g c test agrees =
+    let f = find_from_yields_List test _ _ c.find.result c.find.ensures.ran (YieldsList-from_copied (YieldsList-from_slice c.args.items.now cc)) (λ x b q k.
+    (search of_calls, agrees x b (record { shown = k.shown; shows = k.shows; says = record { met = search of_calls } }))) in
+    sym (same_option c.find.result) ∙ f ∙ find-first_that test c.args.items.now
