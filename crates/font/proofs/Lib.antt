@@ -1,1 +1,2 @@
 mod Finds
+mod Tables

@@ -1,4 +1,5 @@
 pub mod Font
 pub mod Search
 pub mod StandIn
+pub mod Table
 pub mod Told

@@ -1,5 +1,5 @@
 -- What a source means under a layer of stand-in characters.
-use Rattle.std.specs.Prelude.{ℕ, cond, List, take, Some, None, Option, ◌==◌, nat_eq}
+use Rattle.std.specs.Prelude.{ℕ, cond, List, Some, None, Option, ◌==◌, nat_eq}
 use Rattle.font.specs.declared.pairs.Pair.{Pair}
 use Rattle.font.specs.declared.pairs.PairTable.{PairTable}
 use Rattle.font.specs.Font.{Font}
@@ -7,7 +7,7 @@ use Rattle.font.specs.Search.{first_that}
 
 -- The pairs that a table holds, in the order in which they were added.
 abbrev pub pairs_of : PairTable → List Pair
-pairs_of table = take table.count table.pairs
+pairs_of table = table.pairs
 
 -- The glyph of a pair's stand-in; 0 where there is no pair.
 abbrev pub glyph_by : (ℕ → ℕ) → Option Pair → ℕ

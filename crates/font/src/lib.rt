@@ -6,3 +6,4 @@ pub mod refusal;
 pub mod search;
 pub mod source;
 pub mod stand_in;
+pub mod table;

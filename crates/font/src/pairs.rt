@@ -1,4 +1,9 @@
-ghost use Rattle.std.specs.Prelude.{◌≡◌, ◌≤◌, length};
+ghost use Rattle.std.specs.Prelude.{◌≡◌, [], ◌∷◌, ◌++◌, length, if◌then◌else◌, nat_lt};
+ghost use Rattle.font.specs.Told.{gave, refused, told};
+ghost use Rattle.font.specs.StandIn.{pairs_of};
+
+use crate::refusal::Refusal;
+use crate::table::{Blank, Table};
 
 // A character, and the one that stands in for it where a font has no glyph.
 #[derive(Clone, Copy, Debug, PartialEq)]
@@ -7,11 +12,46 @@ pub struct Pair {
     pub stand_in: u32,
 }
 
+impl Blank for Pair {
+    ghost BLANK = { record { character = 0; stand_in = 0 } };
+
+    const BLANK: Pair = Pair {
+        character: 0,
+        stand_in: 0,
+    };
+}
+
 // At most 32 pairs, in the order in which they were added.
 #[derive(Drop)]
 pub struct PairTable {
-    pub(crate) pairs: [Pair; 32],
-    pub(crate) count: usize,
-    ghost few: { count ≤ 32 },
-    ghost full: { length pairs ≡ 32 },
+    pairs: Table<Pair, 32>,
+}
+
+impl PairTable {
+    pub fn new() -> PairTable
+        ensures { pairs_of result ≡ [] }
+    {
+        PairTable {
+            pairs: Table::new(),
+        }
+    }
+
+    // The pairs, in the order in which they were added.
+    pub fn pairs(&self) -> &[Pair]
+        ensures { result.now ≡ pairs_of self.now }
+    {
+        self.pairs.items()
+    }
+
+    // One pair more; a 33rd is refused and changes nothing.
+    pub fn add(&mut self, pair: Pair) -> Result<(), Refusal>
+        ensures answer { told result ≡ (if nat_lt (length (pairs_of self.old)) 32 then gave tt else refused 13 []) }
+        ensures pairs { pairs_of self.new ≡ (if nat_lt (length (pairs_of self.old)) 32 then pairs_of self.old ++ pair ∷ [] else pairs_of self.old) }
+    {
+        if self.pairs.is_full() {
+            return Err(Refusal::TooManyPairs);
+        }
+        self.pairs.push(pair);
+        Ok(())
+    }
 }

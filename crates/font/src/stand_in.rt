@@ -1,46 +1,9 @@
-ghost use Rattle.std.specs.Prelude.{◌≡◌, [], ◌∷◌, ◌++◌, length, if◌then◌else◌, Ok, Err, nat_lt};
-ghost use Rattle.font.specs.Told.{gave, refused, told};
+ghost use Rattle.std.specs.Prelude.{◌≡◌};
 ghost use Rattle.font.specs.StandIn.{pairs_of, stand_in_font};
 
-use crate::pairs::{Pair, PairTable};
-use crate::refusal::Refusal;
+use crate::pairs::PairTable;
 use crate::search::first_that;
 use crate::source::{FontSource, MeasuredSource};
-
-impl PairTable {
-    pub fn new() -> PairTable
-        ensures { pairs_of result ≡ [] }
-    {
-        PairTable {
-            pairs: [Pair {
-                character: 0,
-                stand_in: 0,
-            }; 32],
-            count: 0,
-        }
-    }
-
-    // The pairs, in the order in which they were added.
-    pub fn pairs(&self) -> &[Pair]
-        ensures { result.now ≡ pairs_of self.now }
-    {
-        &self.pairs[0..self.count]
-    }
-
-    // One pair more; a 33rd is refused and changes nothing.
-    pub fn add(&mut self, pair: Pair) -> Result<(), Refusal>
-        ensures answer { told result ≡ (if nat_lt (length (pairs_of self.old)) 32 then gave tt else refused 13 []) }
-        ensures pairs { pairs_of self.new ≡ (if nat_lt (length (pairs_of self.old)) 32 then pairs_of self.old ++ pair ∷ [] else pairs_of self.old) }
-    {
-        let count = self.count;
-        if count >= 32 {
-            return Err(Refusal::TooManyPairs);
-        }
-        self.pairs[count] = pair;
-        self.count = count + 1;
-        Ok(())
-    }
-}
 
 // A source with characters that stand in for those that it lacks. It holds any source, another layer too.
 #[derive(Drop)]

@@ -1,0 +1,63 @@
+ghost use Rattle.std.specs.Prelude.{◌≡◌, ◌<◌, ◌≤◌, [], ◌∷◌, ◌++◌, length, ◌==◌};
+
+use std::marker::Model;
+
+// What stands in the places of a table that have no item.
+pub trait Blank: Copy {
+    ghost BLANK: { Self };
+
+    const BLANK: Self;
+}
+
+// At most N items, in the order in which they were added, in memory of a fixed size: no heap can fail it.
+// The places past the items are blank.
+#[derive(Drop)]
+pub struct Table<T: Blank, const N: usize> {
+    places: [T; N],
+    count: usize,
+}
+
+// Clauses see the items.
+impl<T: Blank, const N: usize> Model for Table<T, N> {
+    ghost use Rattle.std.specs.Prelude.{◌≡◌, ◌≤◌, List, take};
+    ghost use Rattle.font.specs.Table.{table_of};
+
+    ghost Value = { List T };
+
+    ghost view = { λ table. take table.count table.places };
+
+    ghost invariant = { λ table. (table.count ≤ N) × (table.places ≡ table_of N T.BLANK (take table.count table.places)) };
+}
+
+impl<T: Blank, const N: usize> Table<T, N> {
+    pub fn new() -> Table<T, N>
+        ensures { result ≡ [] }
+    {
+        Table {
+            places: [T::BLANK; N],
+            count: 0,
+        }
+    }
+
+    pub fn items(&self) -> &[T]
+        ensures { result.now ≡ self.now }
+    {
+        &self.places[..self.count]
+    }
+
+    pub fn is_full(&self) -> bool
+        ensures full { result ≡ (length self.now == N) }
+        ensures within { length self.now ≤ N }
+    {
+        self.count == N
+    }
+
+    // One item more.
+    pub fn push(&mut self, item: T)
+        requires { length self.old < N }
+        ensures { self.new ≡ self.old ++ item ∷ [] }
+    {
+        self.places[self.count] = item;
+        self.count += 1;
+    }
+}
