@@ -1,5 +1,7 @@
 -- What a refusal tells: its number and the values that come with it.
 use Rattle.std.specs.Prelude.{ℕ, List, [], ◌∷◌, Ok, Err, Result}
+use Rattle.font.specs.declared.refusal.LabelField.{LabelField}
+use Rattle.font.specs.declared.refusal.LabelField.TheVariants.{Character, Glyph, Class, MarkClass, Advance}
 use Rattle.font.specs.declared.refusal.Refusal.{Refusal}
 use Rattle.font.specs.declared.refusal.Refusal.TheVariants.{RunTooLong, Label, TooManyPairs}
 
@@ -8,11 +10,19 @@ pub data Told (X : Type 0) : Type 0 where
   gave : X → Told X
   refused : (number : ℕ) (values : List ℕ) → Told X
 
+-- A field's number in the row of a label file.
+abbrev pub field_number : LabelField → ℕ
+field_number Character = 1
+field_number Glyph = 2
+field_number Class = 3
+field_number MarkClass = 4
+field_number Advance = 5
+
 -- A label file's fault tells its line and its field, both from 1.
 abbrev pub told : {X : Type 0} → Result X Refusal → Told X
 told (Ok x) = gave x
 told (Err RunTooLong) = refused 6 []
-told (Err (Label line field)) = refused 12 (line ∷ field ∷ [])
+told (Err (Label line field)) = refused 12 (line ∷ field_number field ∷ [])
 told (Err TooManyPairs) = refused 13 []
 
 -- The same, for a call that hands its value over in memory.

@@ -1,13 +1,31 @@
 ghost use Rattle.std.specs.Prelude.{◌≡◌, Err};
-ghost use Rattle.font.specs.Told.{told, number_of};
+ghost use Rattle.font.specs.Told.{told, number_of, field_number};
+
+// A field of a label file's row, numbered from left to right.
+#[derive(Clone, Copy, Debug, PartialEq)]
+pub enum LabelField {
+    Character = 1,
+    Glyph = 2,
+    Class = 3,
+    MarkClass = 4,
+    Advance = 5,
+}
+
+impl LabelField {
+    pub fn number(self) -> u8
+        ensures { result ≡ field_number self }
+    {
+        self as u8
+    }
+}
 
 // Why a call of this crate was refused.
 #[derive(Clone, Copy, Debug, PartialEq)]
 pub enum Refusal {
     // A run of more than 65,535 glyphs.
     RunTooLong,
-    // A label file that breaks a rule, told by the line and the field of its first fault, both from 1.
-    Label { line: u32, field: u8 },
+    // A label file that breaks a rule, told by the line, from 1, and the field of its first fault.
+    Label { line: u32, field: LabelField },
     // A 33rd stand-in pair.
     TooManyPairs,
 }

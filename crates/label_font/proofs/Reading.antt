@@ -9,16 +9,16 @@ use Rattle.std.proofs.lemmas.List.{length_push, drop_more}
 use Rattle.std.proofs.lemmas.Bool.Decides.{nat_tests}
 use Rattle.font.specs.declared.refusal.Refusal.{Refusal}
 use Rattle.label_font.specs.declared.table.LabelRow.{LabelRow}
-use Rattle.label_font.specs.declared.reader.Column.{Column}
-use Rattle.label_font.specs.declared.reader.Column.TheVariants.{Character, Glyph, Class, MarkClass, Advance}
+use Rattle.font.specs.declared.refusal.LabelField.{LabelField}
+use Rattle.font.specs.declared.refusal.LabelField.TheVariants.{Character, Glyph, Class, MarkClass, Advance}
 use Rattle.label_font.specs.declared.reader.Reader.{Reader}
-use Rattle.label_font.specs.LabelFile.{Place, Field, Reads, done, field, fault, start, number, ender, highest, lowest, past_last, after, filled, OneReading}
+use Rattle.label_font.specs.LabelFile.{Place, Field, Reads, done, field, fault, start, ender, highest, lowest, past_last, after, filled, OneReading}
 use Rattle.label_font.specs.LabelFont.{no_row}
 use Rattle.label_font.specs.LabelReader.{fault_at, grown, behind, moved, grows, ends, stepped, first_row, step_answer, ends_at, finish_answer}
-use Rattle.font.specs.Told.{Told, gave, refused, told, told_with}
+use Rattle.font.specs.Told.{Told, gave, refused, told, told_with, field_number}
 
 -- a byte that ends a field is no digit
-ender-no-digit : (c : Column) → digit_value (ender c) < 10 → ⊥
+ender-no-digit : (c : LabelField) → digit_value (ender c) < 10 → ⊥
 ender-no-digit Character h = omega arith
 ender-no-digit Glyph h = omega arith
 ender-no-digit Class h = omega arith
@@ -85,7 +85,7 @@ digits-on : (p : Place) (ds xs text more : List ℕ) (w : ℕ) → AllDigits 10 
 digits-on p ds xs text more w digits e f =
     goes_on ds f.digits xs more (ender p.next) digits (ender-no-digit p.next) (e ∙ ap (λ u. u ++ more) f.spelt ∙ append_assoc f.digits (ender p.next ∷ []) more)
 
-pub reads-fault : (p : Place) (n v b : ℕ) (rest : List ℕ) → Stops p n v b → ReadsIn p n v (b ∷ rest) (refused 12 ((length p.above + 1) ∷ number p.next ∷ []))
+pub reads-fault : (p : Place) (n v b : ℕ) (rest : List ℕ) → Stops p n v b → ReadsIn p n v (b ∷ rest) (refused 12 ((length p.above + 1) ∷ field_number p.next ∷ []))
 reads-fault p n v b rest s ds digits len val =
     fault
     (λ e. let l : length (ds ++ b ∷ rest) ≡ 0 = ap length e in absurd (let m = length-append ds (b ∷ rest) in omega arith))
@@ -96,7 +96,7 @@ pub reads_end : (p : Place) (n v : ℕ) → n ≡ 0 → p.next ≡ Character →
 reads_end p n v none first [] digits len val = done refl first
 reads_end p n v none first (d ∷ ds) digits len val = absurd (omega arith)
 
-pub reads-cut : (p : Place) (n v : ℕ) → (n ≡ 0 → p.next ≡ Character → ⊥) → ReadsIn p n v [] (refused 12 ((length p.above + 1) ∷ number p.next ∷ []))
+pub reads-cut : (p : Place) (n v : ℕ) → (n ≡ 0 → p.next ≡ Character → ⊥) → ReadsIn p n v [] (refused 12 ((length p.above + 1) ∷ field_number p.next ∷ []))
 reads-cut p n v h ds digits len val =
     fault
     (λ e c. h (let l : length ds ≡ 0 = ap length (sym (append-nil ds) ∙ e) in omega arith) c)
@@ -141,7 +141,7 @@ one-reading p bytes s t (fault _ n) (fault _ n') = refl
 
 -- The reader stands at a place.
 abbrev pub at : List LabelRow → Reader → Place
-at above r = record { above = above; row = r.row; next = r.column }
+at above r = record { above = above; row = r.row; next = r.next }
 
 -- It knows its line, and the lowest glyph of its row.
 pub record Knows (above : List LabelRow) (r : Reader) : Type 0 where
@@ -158,39 +158,31 @@ past_last-push n [] more = refl
 past_last-push n (row ∷ rows) more = past_last-push (row.glyph + 1) rows more
 
 -- the rows above are as before, and then those that the field ended
-after-above : (c : Column) (above : List LabelRow) (row : LabelRow) (v : ℕ) → (after c above row v).above ≡ above ++ (after c [] row v).above
+after-above : (c : LabelField) (above : List LabelRow) (row : LabelRow) (v : ℕ) → (after c above row v).above ≡ above ++ (after c [] row v).above
 after-above Character above row v = sym (append-nil above)
 after-above Glyph above row v = sym (append-nil above)
 after-above Class above row v = sym (append-nil above)
 after-above MarkClass above row v = sym (append-nil above)
 after-above Advance above row v = refl
 
-after_same : (c : Column) (above : List LabelRow) (row : LabelRow) (v : ℕ) → after c above row v ≡ record { above = above ++ (after c [] row v).above; row = (after c [] row v).row; next = (after c [] row v).next }
+after_same : (c : LabelField) (above : List LabelRow) (row : LabelRow) (v : ℕ) → after c above row v ≡ record { above = above ++ (after c [] row v).above; row = (after c [] row v).row; next = (after c [] row v).next }
 after_same Character above row v = λ i. record { above = after-above Character above row v i; row = (after Character [] row v).row; next = Glyph }
 after_same Glyph above row v = λ i. record { above = after-above Glyph above row v i; row = (after Glyph [] row v).row; next = Class }
 after_same Class above row v = λ i. record { above = after-above Class above row v i; row = (after Class [] row v).row; next = MarkClass }
 after_same MarkClass above row v = λ i. record { above = after-above MarkClass above row v i; row = (after MarkClass [] row v).row; next = Advance }
 after_same Advance above row v = refl
 
-one-row : (c : Column) (row : LabelRow) (v : ℕ) → option_to_list (first_row (after c [] row v).above) ≡ (after c [] row v).above
+one-row : (c : LabelField) (row : LabelRow) (v : ℕ) → option_to_list (first_row (after c [] row v).above) ≡ (after c [] row v).above
 one-row Character row v = refl
 one-row Glyph row v = refl
 one-row Class row v = refl
 one-row MarkClass row v = refl
 one-row Advance row v = refl
 
-one_at_most : (c : Column) (row : LabelRow) (v : ℕ) → length (after c [] row v).above ≤ 1
-one_at_most Character row v = omega arith
-one_at_most Glyph row v = omega arith
-one_at_most Class row v = omega arith
-one_at_most MarkClass row v = omega arith
-one_at_most Advance row v = omega arith
-
 -- A byte takes the reader from r to r' and ends these rows: what follows reads the same.
 pub record Turn (above : List LabelRow) (r : Reader) (b : ℕ) (ended : List LabelRow) (r' : Reader) : Type 0 where
   pub knows : Knows (above ++ ended) r'
   pub reads : (rest : List ℕ) (t : Told (List LabelRow)) → ReadsFrom (above ++ ended) r' rest t → ReadsFrom above r (b ∷ rest) t
-  pub room : length above ≤ 256 → length (above ++ ended) ≤ 256
 
 turn-digit : (above : List LabelRow) (r : Reader) (b : ℕ) → Knows above r → grows r b ≡ true → Turn above r b [] (grown r (b - 48))
 turn-digit above r b k g =
@@ -201,15 +193,14 @@ turn-digit above r b k g =
     record {
       knows = record { line = k.line ∙ ap (λ u. length u + 1) (sym same); lowest = k.lowest ∙ ap (past_last 0) (sym same); few = omega arith };
       reads = λ rest t h. reads-digit (at above r) r.count r.value b rest t low high (subst (λ u. ReadsFrom u (grown r (b - 48)) rest t) same h);
-      room = λ h. subst (λ u. length u ≤ 256) (sym same) h;
     }
 
 turn-field : (above : List LabelRow) (r : Reader) (b : ℕ) → Knows above r → ends r b ≡ true → Turn above r b (behind r).above (moved r (behind r))
 turn-field above r b k e =
-    let is : b ≡ ender r.column = grind (arith, nat_tests) in
+    let is : b ≡ ender r.next = grind (arith, nat_tests) in
     let some : 1 ≤ r.count = grind (arith, nat_tests) in
-    let low : lowest r.column r.lowest ≤ r.value = grind (arith, nat_tests) in
-    let high : r.value ≤ highest r.column = grind (arith, nat_tests) in
+    let low : lowest r.next r.lowest ≤ r.value = grind (arith, nat_tests) in
+    let high : r.value ≤ highest r.next = grind (arith, nat_tests) in
     let line : r.line ≤ 256 = grind (arith, nat_tests) in
     let room : length above < 256 = omega (arith, k.line) in
     record {
@@ -220,9 +211,8 @@ turn-field above r b k e =
       };
       reads = λ rest t h.
           subst (λ u. ReadsFrom above r (u ∷ rest) t) (sym is)
-          (reads-field (at above r) r.count r.value rest t some k.few (subst (λ u. lowest r.column u ≤ r.value) k.lowest low) high room
-          (subst (λ u. ReadsIn u 0 0 rest t) (sym (after_same r.column above r.row r.value)) h));
-      room = λ h. simp length-append (omega (arith, one_at_most r.column r.row r.value));
+          (reads-field (at above r) r.count r.value rest t some k.few (subst (λ u. lowest r.next u ≤ r.value) k.lowest low) high room
+          (subst (λ u. ReadsIn u 0 0 rest t) (sym (after_same r.next above r.row r.value)) h));
     }
 
 -- an accepted byte
@@ -231,7 +221,7 @@ turn_by : (above : List LabelRow) (r : Reader) (b : ℕ) → Knows above r → (
 turn_by above r b k true e p q o s = let n : o ≡ None = cc in subst (λ u. Turn above r b (option_to_list u) (grown r (b - 48))) (sym n) (turn-digit above r b k p)
 turn_by above r b k false true p q o s =
     let n : o ≡ first_row (behind r).above = cc in
-    subst (λ u. Turn above r b u (moved r (behind r))) (sym (ap option_to_list n ∙ one-row r.column r.row r.value)) (turn-field above r b k q)
+    subst (λ u. Turn above r b u (moved r (behind r))) (sym (ap option_to_list n ∙ one-row r.next r.row r.value)) (turn-field above r b k q)
 turn_by above r b k false false p q o s = let z : ◌≡◌ {A = ℕ} 0 1 = cc in absurd (omega arith)
 
 pub turn : (above : List LabelRow) (r : Reader) (b : ℕ) → Knows above r → (o : Option LabelRow) → Ok o ≡ step_answer r b → (r' : Reader) → r' ≡ stepped r b → Turn above r b (option_to_list o) r'
@@ -255,18 +245,18 @@ fault-by above r b rest k false false p q x s ds digits len val =
       full = λ low high few. let m = below-million ds digits (omega arith) in let v : r.value < 1000000 = omega arith in grind (arith, nat_tests);
       other = λ is some low high room.
           let line : r.line ≤ 256 = omega (arith, k.line) in
-          let least : lowest r.column r.lowest ≤ r.value = subst (λ u. lowest r.column u ≤ r.value) (sym k.lowest) low in
+          let least : lowest r.next r.lowest ≤ r.value = subst (λ u. lowest r.next u ≤ r.value) (sym k.lowest) low in
           grind (arith, nat_tests);
     } in
     subst (λ u. Reads (at above r) (ds ++ b ∷ rest) (told (Err u))) (sym n)
-    (subst (λ u. Reads (at above r) (ds ++ b ∷ rest) (refused 12 (u ∷ number r.column ∷ []))) (sym k.line) (reads-fault (at above r) r.count r.value b rest stops ds digits len val))
+    (subst (λ u. Reads (at above r) (ds ++ b ∷ rest) (refused 12 (u ∷ field_number r.next ∷ []))) (sym k.line) (reads-fault (at above r) r.count r.value b rest stops ds digits len val))
 
 pub faulty : (above : List LabelRow) (r : Reader) (b : ℕ) (rest : List ℕ) → Knows above r → (x : Refusal) → Err x ≡ step_answer r b → ReadsFrom above r (b ∷ rest) (told (Err x))
 faulty above r b rest k x s = fault-by above r b rest k (grows r b) (ends r b) refl refl x s
 
 -- The reader at the start of a file.
 abbrev pub fresh : Reader
-fresh = record { column = Character; count = 0; value = 0; row = no_row; line = 1; lowest = 0 }
+fresh = record { next = Character; count = 0; value = 0; row = no_row; line = 1; lowest = 0 }
 
 pub knows_start : (above : List LabelRow) (r : Reader) → above ≡ [] → r ≡ fresh → Knows above r
 knows_start above r a e = subst (λ u. Knows u r) (sym a) (subst (λ u. Knows [] u) (sym e) (record { line = refl; lowest = refl; few = omega arith }))
@@ -284,23 +274,23 @@ again bytes i h above r left ended r' turned rows e = (
 )
 
 -- the loop's end
-ends-none : (c : Column) (n : ℕ) → ends_at c n ≡ true → (c ≡ Character) × (n ≡ 0)
+ends-none : (c : LabelField) (n : ℕ) → ends_at c n ≡ true → (c ≡ Character) × (n ≡ 0)
 ends-none Character n e = (refl, grind (arith, nat_tests))
 ends-none Glyph n e = let z : ◌≡◌ {A = ℕ} 0 1 = cc in absurd (omega arith)
 ends-none Class n e = let z : ◌≡◌ {A = ℕ} 0 1 = cc in absurd (omega arith)
 ends-none MarkClass n e = let z : ◌≡◌ {A = ℕ} 0 1 = cc in absurd (omega arith)
 ends-none Advance n e = let z : ◌≡◌ {A = ℕ} 0 1 = cc in absurd (omega arith)
 
-ends_some : (c : Column) (n : ℕ) → ends_at c n ≡ false → c ≡ Character → n ≡ 0 → ⊥
+ends_some : (c : LabelField) (n : ℕ) → ends_at c n ≡ false → c ≡ Character → n ≡ 0 → ⊥
 ends_some c n e first none =
     let f : ends_at Character n ≡ false = subst (λ u. ends_at u n ≡ false) first e in
     grind (arith, nat_tests)
 
-finish-by : (above : List LabelRow) (r : Reader) → Knows above r → (f : Bool) → ends_at r.column r.count ≡ f → ReadsFrom above r [] (told_with above (cond {A = Result Unit Refusal} f (Ok tt) (Err (fault_at r))))
-finish-by above r k true p = reads_end (at above r) r.count r.value (ends-none r.column r.count p).1 (ends-none r.column r.count p).0
+finish-by : (above : List LabelRow) (r : Reader) → Knows above r → (f : Bool) → ends_at r.next r.count ≡ f → ReadsFrom above r [] (told_with above (cond {A = Result Unit Refusal} f (Ok tt) (Err (fault_at r))))
+finish-by above r k true p = reads_end (at above r) r.count r.value (ends-none r.next r.count p).1 (ends-none r.next r.count p).0
 finish-by above r k false p =
-    subst (λ u. ReadsFrom above r [] (refused 12 (u ∷ number r.column ∷ []))) (sym k.line)
-    (reads-cut (at above r) r.count r.value (λ none first. ends_some r.column r.count p first none))
+    subst (λ u. ReadsFrom above r [] (refused 12 (u ∷ field_number r.next ∷ []))) (sym k.line)
+    (reads-cut (at above r) r.count r.value (λ none first. ends_some r.next r.count p first none))
 
 pub finished : (above : List LabelRow) (r : Reader) → Knows above r → ReadsFrom above r [] (told_with above (finish_answer r))
-finished above r k = finish-by above r k (ends_at r.column r.count) refl
+finished above r k = finish-by above r k (ends_at r.next r.count) refl

@@ -3,30 +3,22 @@
 use Rattle.std.specs.Prelude.{◌≡◌, ℕ, ◌+◌, ◌<◌, ◌≤◌, List, [], ◌∷◌, ◌++◌, length, ◌≢◌}
 use Rattle.std.specs.Str.Parse.{AllDigits, digits_value}
 use Rattle.label_font.specs.declared.table.LabelRow.{LabelRow}
-use Rattle.label_font.specs.declared.reader.Column.{Column}
-use Rattle.label_font.specs.declared.reader.Column.TheVariants.{Character, Glyph, Class, MarkClass, Advance}
+use Rattle.font.specs.declared.refusal.LabelField.{LabelField}
+use Rattle.font.specs.declared.refusal.LabelField.TheVariants.{Character, Glyph, Class, MarkClass, Advance}
 use Rattle.label_font.specs.LabelFont.{no_row}
-use Rattle.font.specs.Told.{Told, gave, refused}
+use Rattle.font.specs.Told.{Told, gave, refused, field_number}
 
 -- A place in a file: the rows above, what is known of this row (the rest is zero), and the field that comes next.
 pub record Place : Type 0 where
   pub above : List LabelRow
   pub row : LabelRow
-  pub next : Column
+  pub next : LabelField
 
 abbrev pub start : Place
 start = record { above = []; row = no_row; next = Character }
 
--- A field's number in its row.
-abbrev pub number : Column → ℕ
-number Character = 1
-number Glyph = 2
-number Class = 3
-number MarkClass = 4
-number Advance = 5
-
 -- The byte that ends a field: a tab, and after the last a line feed.
-abbrev pub ender : Column → ℕ
+abbrev pub ender : LabelField → ℕ
 ender Character = 9
 ender Glyph = 9
 ender Class = 9
@@ -34,7 +26,7 @@ ender MarkClass = 9
 ender Advance = 10
 
 -- The highest value of a field.
-abbrev pub highest : Column → ℕ
+abbrev pub highest : LabelField → ℕ
 highest Character = 1114111
 highest Glyph = 65535
 highest Class = 4
@@ -47,7 +39,7 @@ past_last n [] = n
 past_last n (row ∷ rows) = past_last (row.glyph + 1) rows
 
 -- The lowest value of a field: glyphs rise strictly from row to row, so that a row's is g or above.
-abbrev pub lowest : Column → (g : ℕ) → ℕ
+abbrev pub lowest : LabelField → (g : ℕ) → ℕ
 lowest Character g = 0
 lowest Glyph g = g
 lowest Class g = 0
@@ -55,7 +47,7 @@ lowest MarkClass g = 0
 lowest Advance g = 0
 
 -- The place after a field with the value v.
-abbrev pub after : Column → List LabelRow → LabelRow → ℕ → Place
+abbrev pub after : LabelField → List LabelRow → LabelRow → ℕ → Place
 after Character above row v = record { above = above; row = record { character = v; glyph = row.glyph; class = row.class; mark_class = row.mark_class; advance = row.advance }; next = Glyph }
 after Glyph above row v = record { above = above; row = record { character = row.character; glyph = v; class = row.class; mark_class = row.mark_class; advance = row.advance }; next = Class }
 after Class above row v = record { above = above; row = record { character = row.character; glyph = row.glyph; class = v; mark_class = row.mark_class; advance = row.advance }; next = MarkClass }
@@ -85,7 +77,7 @@ pub data Reads : Place → List ℕ → Told (List LabelRow) → Type 0 where
   field : {p : Place} {bytes text rest : List ℕ} {v : ℕ} {t : Told (List LabelRow)} → bytes ≡ text ++ rest → Field p text v → Reads (filled p v) rest t → Reads p bytes t
   -- neither: the fault is in this line and this field, both counted from 1
   fault : {p : Place} {bytes : List ℕ} → (bytes ≡ [] → p.next ≢ Character) → ((text rest : List ℕ) (v : ℕ) → bytes ≡ text ++ rest → Field p text v → ⊥)
-      → Reads p bytes (refused 12 ((length p.above + 1) ∷ number p.next ∷ []))
+      → Reads p bytes (refused 12 ((length p.above + 1) ∷ field_number p.next ∷ []))
 
 -- No bytes read as two things.
 abbrev pub OneReading : Type 0

@@ -1,5 +1,5 @@
 -- What a label font means, by the rows of its file.
-use Rattle.std.specs.Prelude.{ℕ, ◌-◌, false, cond, List, ◌++◌, length, take, replicate, Some, None, Option, ◌==◌, nat_eq}
+use Rattle.std.specs.Prelude.{ℕ, false, cond, List, Some, None, Option, ◌==◌, nat_eq}
 use Rattle.label_font.specs.declared.table.LabelRow.{LabelRow}
 use Rattle.label_font.specs.declared.table.LabelFont.{LabelFont}
 use Rattle.font.specs.Font.{Font}
@@ -11,11 +11,7 @@ no_row = record { character = 0; glyph = 0; class = 0; mark_class = 0; advance =
 
 -- The rows that a font holds.
 abbrev pub rows_of : LabelFont → List LabelRow
-rows_of font = take font.count font.rows
-
--- The whole table of a font that holds these rows.
-abbrev pub table_of : List LabelRow → List LabelRow
-table_of rows = rows ++ replicate (256 - length rows) no_row
+rows_of font = font.rows
 
 abbrev pub or_no_row : Option LabelRow → LabelRow
 or_no_row None = no_row

@@ -1,35 +1,19 @@
 ghost use Rattle.std.specs.Prelude.{◌≡◌, ◌<◌, false, [], ◌∷◌, ◌++◌, is_ok, if◌then◌else◌, Ok, Err};
-ghost use Rattle.label_font.specs.declared.reader.Column.TheVariants.{Character};
-ghost use Rattle.label_font.specs.LabelFile.{OneReading, Reads, start, number};
-ghost use Rattle.label_font.specs.LabelFont.{no_row, rows_of, table_of};
+ghost use Rattle.font.specs.declared.refusal.LabelField.TheVariants.{Character};
+ghost use Rattle.label_font.specs.LabelFile.{OneReading, Reads, start};
+ghost use Rattle.label_font.specs.LabelFont.{no_row, rows_of};
 ghost use Rattle.font.specs.Told.{told_with};
 ghost use Rattle.label_font.specs.LabelReader.{finish_answer, fault_at, is_field, has_room, grown, stepped, step_answer};
 
 use crate::table::{LabelFont, LabelRow};
-use font::refusal::Refusal;
-
-// The field of a row that the next byte meets.
-#[derive(Clone, Copy)]
-pub enum Column {
-    Character = 1,
-    Glyph = 2,
-    Class = 3,
-    MarkClass = 4,
-    Advance = 5,
-}
-
-impl Column {
-    fn number(self) -> u8
-        ensures { result ≡ number self }
-    {
-        self as u8
-    }
-}
+use font::refusal::{LabelField, Refusal};
+use font::table::Blank;
 
 // A label file's reader, between two bytes.
 #[derive(Clone, Copy)]
 struct Reader {
-    column: Column,
+    // The field that the next byte meets.
+    next: LabelField,
     // The digits of this field so far, and what they say.
     count: u8,
     value: u32,
@@ -43,13 +27,13 @@ struct Reader {
 impl Reader {
     // At the start of a file.
     fn new() -> Reader
-        ensures { result ≡ record { column = Character; count = 0; value = 0; row = no_row; line = 1; lowest = 0 } }
+        ensures { result ≡ record { next = Character; count = 0; value = 0; row = no_row; line = 1; lowest = 0 } }
     {
         Reader {
-            column: Column::Character,
+            next: LabelField::Character,
             count: 0,
             value: 0,
-            row: LabelRow::NONE,
+            row: LabelRow::BLANK,
             line: 1,
             lowest: 0,
         }
@@ -60,7 +44,7 @@ impl Reader {
     {
         Refusal::Label {
             line: self.line,
-            field: self.column.number(),
+            field: self.next,
         }
     }
 
@@ -75,10 +59,10 @@ impl Reader {
         }
     }
 
-    fn go_to(&mut self, column: Column)
-        ensures { self.new ≡ record { column = column; count = 0; value = 0; row = self.old.row; line = self.old.line; lowest = self.old.lowest } }
+    fn go_to(&mut self, next: LabelField)
+        ensures { self.new ≡ record { next = next; count = 0; value = 0; row = self.old.row; line = self.old.line; lowest = self.old.lowest } }
     {
-        self.column = column;
+        self.next = next;
         self.count = 0;
         self.value = 0;
     }
@@ -102,31 +86,31 @@ impl Reader {
         ensures answer { result ≡ step_answer self.old byte }
         ensures reader { self.new ≡ stepped self.old byte }
     {
-        match (self.column, byte) {
+        match (self.next, byte) {
             (_, b'0'..=b'9') => self.digit(byte - b'0')?,
-            (Column::Character, b'\t') => {
+            (LabelField::Character, b'\t') => {
                 self.row.character = self.field(0, 1_114_111)?;
-                self.go_to(Column::Glyph);
+                self.go_to(LabelField::Glyph);
             }
-            (Column::Glyph, b'\t') => {
+            (LabelField::Glyph, b'\t') => {
                 self.row.glyph = self.field(self.lowest, 65_535)? as u16;
-                self.go_to(Column::Class);
+                self.go_to(LabelField::Class);
             }
-            (Column::Class, b'\t') => {
+            (LabelField::Class, b'\t') => {
                 self.row.class = self.field(0, 4)? as u8;
-                self.go_to(Column::MarkClass);
+                self.go_to(LabelField::MarkClass);
             }
-            (Column::MarkClass, b'\t') => {
+            (LabelField::MarkClass, b'\t') => {
                 self.row.mark_class = self.field(0, 65_535)? as u16;
-                self.go_to(Column::Advance);
+                self.go_to(LabelField::Advance);
             }
-            (Column::Advance, b'\n') => {
+            (LabelField::Advance, b'\n') => {
                 let mut row = self.row;
                 row.advance = self.field(0, 65_535)? as u16;
-                self.row = LabelRow::NONE;
+                self.row = LabelRow::BLANK;
                 self.lowest = row.glyph as u32 + 1;
                 self.line += 1;
-                self.go_to(Column::Character);
+                self.go_to(LabelField::Character);
                 return Ok(Some(row));
             }
             _ => return Err(self.fault()),
@@ -138,54 +122,23 @@ impl Reader {
     fn finish(&self) -> Result<(), Refusal>
         ensures { result ≡ finish_answer self.now }
     {
-        match (self.column, self.count) {
-            (Column::Character, 0) => Ok(()),
+        match (self.next, self.count) {
+            (LabelField::Character, 0) => Ok(()),
             _ => Err(self.fault()),
         }
     }
 }
 
 impl LabelFont {
-    // A font with no rows.
-    pub fn new() -> LabelFont
-        ensures rows { rows_of result ≡ [] }
-        ensures table { result.rows ≡ table_of [] }
-    {
-        LabelFont {
-            rows: [LabelRow::NONE; 256],
-            count: 0,
-        }
-    }
-
-    fn clear(&mut self)
-        ensures rows { rows_of self.new ≡ [] }
-        ensures table { self.new.rows ≡ table_of [] }
-    {
-        self.count = 0;
-        self.rows.fill(LabelRow::NONE);
-    }
-
-    fn push(&mut self, row: LabelRow)
-        requires { self.old.count < 256 }
-        ensures rows { rows_of self.new ≡ rows_of self.old ++ row ∷ [] }
-        ensures table { self.old.rows ≡ table_of (rows_of self.old) → self.new.rows ≡ table_of (rows_of self.new) }
-    {
-        let count = self.count;
-        self.rows[count] = row;
-        self.count = count + 1;
-    }
-
     // Reads rows into an empty font, up to the first fault.
     fn fill(&mut self, bytes: &[u8]) -> Result<(), Refusal>
-        requires empty { rows_of self.old ≡ [] }
-        requires clean { self.old.rows ≡ table_of [] }
-        ensures answer { Reads start bytes.now (told_with (rows_of self.new) result) }
-        ensures table { self.new.rows ≡ table_of (rows_of self.new) }
+        requires { rows_of self.old ≡ [] }
+        ensures { Reads start bytes.now (told_with (rows_of self.new) result) }
     {
         let mut reader = Reader::new();
         for byte in bytes {
             if let Some(row) = reader.step(*byte)? {
-                self.push(row);
+                self.rows.push(row);
             }
         }
         reader.finish()
@@ -194,13 +147,12 @@ impl LabelFont {
     // Reads a label file in the place of the rows so far. A refusal leaves no row.
     pub fn read(&mut self, bytes: &[u8]) -> Result<(), Refusal>
         ensures answer { Reads start bytes.now (told_with (rows_of self.new) result) }
-        ensures table { self.new.rows ≡ table_of (rows_of self.new) }
         ensures cleared { is_ok result ≡ false → rows_of self.new ≡ [] }
     {
-        self.clear();
+        *self = LabelFont::new();
         let answer = self.fill(bytes);
         if answer.is_err() {
-            self.clear();
+            *self = LabelFont::new();
         }
         answer
     }

@@ -1,4 +1,7 @@
-ghost use Rattle.std.specs.Prelude.{◌≡◌, ◌≤◌, length};
+ghost use Rattle.std.specs.Prelude.{◌≡◌, []};
+ghost use Rattle.label_font.specs.LabelFont.{rows_of};
+
+use font::table::{Blank, Table};
 
 // A line of a label file. A row with character 0 maps no character.
 #[derive(Clone, Copy, Debug, PartialEq)]
@@ -10,11 +13,37 @@ pub struct LabelRow {
     pub advance: u16,
 }
 
+// What is not listed has these values.
+impl Blank for LabelRow {
+    ghost BLANK = { record { character = 0; glyph = 0; class = 0; mark_class = 0; advance = 0 } };
+
+    const BLANK: LabelRow = LabelRow {
+        character: 0,
+        glyph: 0,
+        class: 0,
+        mark_class: 0,
+        advance: 0,
+    };
+}
+
 // A font of at most 256 rows, read from a label file.
 #[derive(Drop)]
 pub struct LabelFont {
-    pub(crate) rows: [LabelRow; 256],
-    pub(crate) count: usize,
-    ghost few: { count ≤ 256 },
-    ghost full: { length rows ≡ 256 },
+    pub(crate) rows: Table<LabelRow, 256>,
+}
+
+impl LabelFont {
+    // A font with no rows.
+    pub fn new() -> LabelFont
+        ensures { rows_of result ≡ [] }
+    {
+        LabelFont { rows: Table::new() }
+    }
+
+    // The rows of the file, in order.
+    pub fn rows(&self) -> &[LabelRow]
+        ensures { result.now ≡ rows_of self.now }
+    {
+        self.rows.items()
+    }
 }
