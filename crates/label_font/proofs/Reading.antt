@@ -1,10 +1,10 @@
 -- Label files: one reading for any bytes, and what the reader's steps are in it.
-use Rattle.std.proofs.Common.{◌≡◌, ℕ, ◌+◌, ◌-◌, ◌*◌, ◌^◌, ◌<◌, ◌≤◌, Bool, true, false, cond, List, [], ◌∷◌, ◌++◌, length, get_or, drop, None, Ok, Err, Option, Result, sym, refl, ap, ◌∙◌, subst, append_assoc, append-nil, arith, length-append}
-use native.Mathlib.Nat.{pow-le-pow_right}
+use Rattle.std.proofs.Common.{◌≡◌, ℕ, ◌+◌, ◌-◌, ◌*◌, ◌<◌, ◌≤◌, Bool, true, false, cond, List, [], ◌∷◌, ◌++◌, length, get_or, drop, None, Ok, Err, Option, Result, sym, refl, ap, ◌∙◌, subst, append_assoc, append-nil, arith, length-append}
 use Rattle.std.specs.Str.Parse.{AllDigits, digits_value}
 use Rattle.std.specs.Char.{digit_value}
 use Rattle.std.specs.Option.{option_to_list}
-use Rattle.std.proofs.lemmas.Int.Digits.{digits_value_push, digits_value-lt, digits_push}
+use Rattle.std.proofs.lemmas.Int.Digits.{digits_value_push, digits_push}
+use Rattle.std.proofs.lemmas.Str.Parse.{digits_value_short, numerals_by_value, tells_digits}
 use Rattle.std.proofs.lemmas.List.{length_push, drop_more}
 use Rattle.std.proofs.lemmas.Bool.Decides.{nat_tests}
 use Rattle.font.specs.declared.refusal.Refusal.{Refusal}
@@ -222,27 +222,20 @@ turn_by above r b k true e p q o s = let n : o ≡ None = cc in subst (λ u. Tur
 turn_by above r b k false true p q o s =
     let n : o ≡ first_row (behind r).above = cc in
     subst (λ u. Turn above r b u (moved r (behind r))) (sym (ap option_to_list n ∙ one-row r.next r.row r.value)) (turn-field above r b k q)
-turn_by above r b k false false p q o s = let z : ◌≡◌ {A = ℕ} 0 1 = cc in absurd (omega arith)
+turn_by above r b k false false p q o s = absurd cc
 
 pub turn : (above : List LabelRow) (r : Reader) (b : ℕ) → Knows above r → (o : Option LabelRow) → Ok o ≡ step_answer r b → (r' : Reader) → r' ≡ stepped r b → Turn above r b (option_to_list o) r'
 turn above r b k o s r' e = subst (λ u. Turn above r b (option_to_list o) u) (sym e) (turn_by above r b k (grows r b) (ends r b) refl refl o s)
 
--- fewer than seven digits say less than a million
-below-million : (ds : List ℕ) → AllDigits 10 ds → length ds < 7 → digits_value 10 ds < 1000000
-below-million ds digits few =
-    let l : length ds ≤ 6 = omega arith in
-    let m : 10 ^ length ds ≤ 10 ^ 6 = pow-le-pow_right (omega arith) l in
-    omega (arith, digits_value-lt 10 ds digits)
-
 -- a refused byte
 fault-by : (above : List LabelRow) (r : Reader) (b : ℕ) (rest : List ℕ) → Knows above r → (g e : Bool) → grows r b ≡ g → ends r b ≡ e → (x : Refusal)
     → Err x ≡ cond g (Ok None) (cond e (Ok (first_row (behind r).above)) (Err (fault_at r))) → ReadsFrom above r (b ∷ rest) (told (Err x))
-fault-by above r b rest k true e p q x s ds digits len val = let z : ◌≡◌ {A = ℕ} 0 1 = cc in absurd (omega arith)
-fault-by above r b rest k false true p q x s ds digits len val = let z : ◌≡◌ {A = ℕ} 0 1 = cc in absurd (omega arith)
+fault-by above r b rest k true e p q x s ds digits len val = absurd cc
+fault-by above r b rest k false true p q x s ds digits len val = absurd cc
 fault-by above r b rest k false false p q x s ds digits len val =
     let n : x ≡ fault_at r = cc in
     let stops : Stops (at above r) r.count r.value b = record {
-      full = λ low high few. let m = below-million ds digits (omega arith) in let v : r.value < 1000000 = omega arith in grind (arith, nat_tests);
+      full = λ low high few. let m = digits_value_short (numerals_by_value (AllDigits 10) tells_digits) ds 6 digits (omega arith) in let v : r.value < 1000000 = omega arith in grind (arith, nat_tests);
       other = λ is some low high room.
           let line : r.line ≤ 256 = omega (arith, k.line) in
           let least : lowest r.next r.lowest ≤ r.value = subst (λ u. lowest r.next u ≤ r.value) (sym k.lowest) low in
@@ -276,10 +269,10 @@ again bytes i h above r left ended r' turned rows e = (
 -- the loop's end
 ends-none : (c : LabelField) (n : ℕ) → ends_at c n ≡ true → (c ≡ Character) × (n ≡ 0)
 ends-none Character n e = (refl, grind (arith, nat_tests))
-ends-none Glyph n e = let z : ◌≡◌ {A = ℕ} 0 1 = cc in absurd (omega arith)
-ends-none Class n e = let z : ◌≡◌ {A = ℕ} 0 1 = cc in absurd (omega arith)
-ends-none MarkClass n e = let z : ◌≡◌ {A = ℕ} 0 1 = cc in absurd (omega arith)
-ends-none Advance n e = let z : ◌≡◌ {A = ℕ} 0 1 = cc in absurd (omega arith)
+ends-none Glyph n e = absurd cc
+ends-none Class n e = absurd cc
+ends-none MarkClass n e = absurd cc
+ends-none Advance n e = absurd cc
 
 ends_some : (c : LabelField) (n : ℕ) → ends_at c n ≡ false → c ≡ Character → n ≡ 0 → ⊥
 ends_some c n e first none =
