@@ -34,49 +34,59 @@ pub fn through_two_layers(
     layered.glyph(character)
 }
 
+// What a letter behind a backslash stands for.
+fn meant(letter: u8) -> u8 {
+    match letter {
+        b't' => b'\t',
+        b'r' => b'\r',
+        _ => b'\n',
+    }
+}
+
 // The bytes that a case writes with escapes.
 fn unescaped(heap: Global, text: &str) -> Result<Vec<u8>, AllocError> {
     let mut bytes = Vec::new(heap);
-    let mut escaped = false;
-    for b in text.bytes() {
-        match (escaped, b) {
-            (false, b'\\') => escaped = true,
-            (false, _) => bytes.push(b)?,
-            (true, b't') => {
-                bytes.push(b'\t')?;
-                escaped = false;
-            }
-            (true, b'r') => {
-                bytes.push(b'\r')?;
-                escaped = false;
-            }
-            (true, _) => {
-                bytes.push(b'\n')?;
-                escaped = false;
-            }
+    let mut written = text.bytes();
+    while let Some(byte) = written.next() {
+        if byte != b'\\' {
+            bytes.push(byte)?;
+        } else if let Some(letter) = written.next() {
+            bytes.push(meant(letter))?;
         }
     }
     Ok(bytes)
 }
 
+fn number_of(word: &str) -> u32 {
+    word.parse::<u32>().unwrap_or(0)
+}
+
 fn pairs(text: &str) -> Result<PairTable, Refusal> {
     let mut table = PairTable::new();
     for word in text.split_whitespace() {
-        if let Some((a, b)) = word.split_once('=') {
-            let character = a.parse::<u32>().unwrap_or(0);
-            let stand_in = b.parse::<u32>().unwrap_or(0);
+        if let Some((character, stand_in)) = word.split_once('=') {
             table.add(Pair {
-                character,
-                stand_in,
+                character: number_of(character),
+                stand_in: number_of(stand_in),
             })?;
         }
     }
     Ok(table)
 }
 
+// The font of a case and its stand-ins, unless the file or the pairs are refused.
+fn source_of(file: &[u8], stand_ins: &str) -> Result<StandIn<LabelFont>, Refusal> {
+    let mut font = LabelFont::new();
+    font.read(file)?;
+    Ok(StandIn {
+        below: font,
+        table: pairs(stand_ins)?,
+    })
+}
+
 fn asked<S: MeasuredSource>(rt: &HostRuntime, source: &S, characters: &str) -> io::Result<()> {
     for word in characters.split_whitespace() {
-        let character = word.parse::<u32>().unwrap_or(0);
+        let character = number_of(word);
         let glyph = source.glyph(character);
         let class = source.class(glyph);
         let mark_class = source.mark_class(glyph);
@@ -90,10 +100,11 @@ fn asked<S: MeasuredSource>(rt: &HostRuntime, source: &S, characters: &str) -> i
 fn refused(rt: &HostRuntime, refusal: Refusal) -> io::Result<()> {
     let number = refusal.number();
     match refusal {
-        Refusal::Label { line, field } => println!(rt;
-            "refused {number} line {line} field {field}"
-        ),
-        _ => println!(rt; "refused {number}"),
+        Refusal::Label { line, field } => {
+            let field = field.number();
+            println!(rt; "refused {number} line {line} field {field}")
+        }
+        Refusal::RunTooLong | Refusal::TooManyPairs => println!(rt; "refused {number}"),
     }
 }
 
@@ -101,21 +112,14 @@ fn case(rt: &HostRuntime, line: &str) -> io::Result<()> {
     let mut parts = line.split('|');
     let name = parts.next().unwrap_or("").trim();
     let file = unescaped(rt.alloc(), parts.next().unwrap_or("").trim())?;
-    let mut font = LabelFont::new();
-    let read = font.read(file.as_slice());
-    let table = pairs(parts.next().unwrap_or(""));
+    let source = source_of(file.as_slice(), parts.next().unwrap_or(""));
     print!(rt; "{name}: ")?;
-    match (read, table) {
-        (Err(refusal), _) => refused(rt, refusal),
-        (_, Err(refusal)) => refused(rt, refusal),
-        (Ok(()), Ok(table)) => {
-            let count = font.rows().len();
+    match source {
+        Err(refusal) => refused(rt, refusal),
+        Ok(source) => {
+            let count = source.below.rows().len();
             print!(rt; "{count} rows")?;
-            asked(
-                rt,
-                &StandIn { below: font, table },
-                parts.next().unwrap_or(""),
-            )
+            asked(rt, &source, parts.next().unwrap_or(""))
         }
     }
 }

@@ -15,11 +15,9 @@ pub fn glyphs_of<S: FontSource>(
 ) -> Result<Vec<u16>, AllocError>
     ensures { IfOk result (λ glyphs. glyphs.items ≡ map (S.FontSource.means source.now).glyph text.now) }
 {
-    let mut glyphs = Vec::new(heap);
-    for character in text {
-        glyphs.push(source.glyph(*character))?;
-    }
-    Ok(glyphs)
+    text.iter()
+        .map(|character| source.glyph(*character))
+        .collect(heap)
 }
 
 // A line of numbers, each behind a space.
