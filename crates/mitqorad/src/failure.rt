@@ -1,4 +1,4 @@
-use font::refusal::Refusal;
+use font::refusal::{LabelField, Refusal};
 use gsub::check::CheckError;
 use layout::fault::{Report, TableFault, TableName};
 use std::alloc::{AllocError, AllocFailed, Global};
@@ -62,13 +62,13 @@ pub fn sentence<T>(heap: Global, what: &str, word: &str) -> Result<T, Failure> {
 }
 
 // What a label file's field should have been.
-fn field_meaning(field: u8) -> &'static str {
+fn field_meaning(field: LabelField) -> &'static str {
     match field {
-        1 => "not a character from 0 to 1114111 and a tab, or a 257th row",
-        2 => "not a glyph from 0 to 65535, above the last row's, and a tab",
-        3 => "not a class from 0 to 4 and a tab",
-        4 => "not a mark class from 0 to 65535 and a tab",
-        _ => "not an advance from 0 to 65535 and a line feed",
+        LabelField::Character => "not a character from 0 to 1114111 and a tab, or a 257th row",
+        LabelField::Glyph => "not a glyph from 0 to 65535, above the last row's, and a tab",
+        LabelField::Class => "not a class from 0 to 4 and a tab",
+        LabelField::MarkClass => "not a mark class from 0 to 65535 and a tab",
+        LabelField::Advance => "not an advance from 0 to 65535 and a line feed",
     }
 }
 
@@ -118,6 +118,7 @@ impl fmt::Display for Failure {
             ),
             Failure::Refused(Refusal::Label { line, field }) => {
                 let meaning = field_meaning(*field);
+                let field = field.number();
                 write!(f, "refused 12 line {line} field {field}: {meaning}")
             }
             Failure::Refused(Refusal::TooManyPairs) => write!(

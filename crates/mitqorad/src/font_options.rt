@@ -6,46 +6,27 @@ use std::alloc::Global;
 #[derive(Clone, Copy)]
 pub enum FontFiles<'a> {
     Label(&'a str),
-    Tables {
-        cmap: &'a str,
-        hmtx: &'a str,
-        // How many metrics hmtx has.
-        metrics: u16,
-        gdef: Option<&'a str>,
-    },
+    Tables(TableFiles<'a>),
 }
 
-// An option of a font. Its value is the next word.
+// The files of a font's tables.
 #[derive(Clone, Copy)]
-enum FontOption {
-    Label,
-    Cmap,
-    Hmtx,
-    Metrics,
-    Gdef,
+pub struct TableFiles<'a> {
+    pub cmap: &'a str,
+    pub hmtx: &'a str,
+    // How many metrics hmtx has.
+    pub metrics: u16,
+    pub gdef: Option<&'a str>,
 }
 
-// The options of a font, as far as the words of a call were taken.
-#[derive(Clone, Copy)]
+// The options of a font that a call gives, each with its value.
+#[derive(Clone, Copy, Default)]
 pub struct FontOptions<'a> {
-    label: Option<&'a str>,
-    cmap: Option<&'a str>,
-    hmtx: Option<&'a str>,
-    metrics: Option<&'a str>,
-    gdef: Option<&'a str>,
-    // The option whose value is still to come.
-    awaited: Option<FontOption>,
-}
-
-fn option_named(word: &str) -> Option<FontOption> {
-    match word {
-        "--label" => Some(FontOption::Label),
-        "--cmap" => Some(FontOption::Cmap),
-        "--hmtx" => Some(FontOption::Hmtx),
-        "--metrics" => Some(FontOption::Metrics),
-        "--gdef" => Some(FontOption::Gdef),
-        _ => None,
-    }
+    pub label: Option<&'a str>,
+    pub cmap: Option<&'a str>,
+    pub hmtx: Option<&'a str>,
+    pub metrics: Option<&'a str>,
+    pub gdef: Option<&'a str>,
 }
 
 fn metrics_of(word: &str) -> Option<u16> {
@@ -53,56 +34,6 @@ fn metrics_of(word: &str) -> Option<u16> {
 }
 
 impl<'a> FontOptions<'a> {
-    pub fn new() -> FontOptions<'a> {
-        FontOptions {
-            label: None,
-            cmap: None,
-            hmtx: None,
-            metrics: None,
-            gdef: None,
-            awaited: None,
-        }
-    }
-
-    // Takes a word that is an option of a font, or the value of the last one. Says whether it took it.
-    pub fn take(&mut self, word: &'a str) -> bool {
-        match self.awaited {
-            Some(option) => {
-                self.put(option, word);
-                self.awaited = None;
-                true
-            }
-            None => {
-                self.awaited = option_named(word);
-                self.awaited.is_some()
-            }
-        }
-    }
-
-    fn put(&mut self, option: FontOption, value: &'a str) {
-        match option {
-            FontOption::Label => self.label = Some(value),
-            FontOption::Cmap => self.cmap = Some(value),
-            FontOption::Hmtx => self.hmtx = Some(value),
-            FontOption::Metrics => self.metrics = Some(value),
-            FontOption::Gdef => self.gdef = Some(value),
-        }
-    }
-
-    // What the last option still lacks, if anything.
-    pub fn awaits(&self) -> Option<&'static str> {
-        match self.awaited {
-            Some(FontOption::Metrics) => Some("number"),
-            Some(_) => Some("file"),
-            None => None,
-        }
-    }
-
-    // The files of the font that were named.
-    pub fn named(&self) -> [Option<&'a str>; 4] {
-        [self.label, self.cmap, self.hmtx, self.gdef]
-    }
-
     // The one font that the options name.
     pub fn files(&self, heap: Global) -> Result<FontFiles<'a>, Failure> {
         if let Some(label) = self.label {
@@ -151,11 +82,11 @@ impl<'a> FontOptions<'a> {
                 metrics,
             );
         };
-        Ok(FontFiles::Tables {
+        Ok(FontFiles::Tables(TableFiles {
             cmap,
             hmtx,
             metrics,
             gdef: self.gdef,
-        })
+        }))
     }
 }

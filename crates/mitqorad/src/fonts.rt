@@ -1,4 +1,5 @@
 use crate::failure::Failure;
+use crate::font_options::TableFiles;
 use crate::input::bytes_of;
 use label_font::table::LabelFont;
 use table_font::table::TableFont;
@@ -21,21 +22,15 @@ pub struct TableBytes {
 }
 
 impl TableBytes {
-    pub fn read(
-        rt: &HostRuntime,
-        cmap: &str,
-        gdef: Option<&str>,
-        hmtx: &str,
-        metrics: u16,
-    ) -> Result<TableBytes, Failure> {
+    pub fn read(rt: &HostRuntime, files: TableFiles) -> Result<TableBytes, Failure> {
         Ok(TableBytes {
-            cmap: bytes_of(rt, cmap)?,
-            gdef: match gdef {
+            cmap: bytes_of(rt, files.cmap)?,
+            gdef: match files.gdef {
                 Some(path) => bytes_of(rt, path)?,
                 None => Vec::new(rt.alloc()),
             },
-            hmtx: bytes_of(rt, hmtx)?,
-            metrics,
+            hmtx: bytes_of(rt, files.hmtx)?,
+            metrics: files.metrics,
         })
     }
 

@@ -69,11 +69,7 @@ pub fn number_of(line: &str) -> Option<u32>
 pub fn characters(heap: Global, text: &str) -> Result<Vec<u32>, Failure>
     ensures { IfOk result (λ all. encode_utf8_all all.items ≡ text.now) }
 {
-    let mut all = Vec::new(heap);
-    for c in text.chars() {
-        all.push(c as u32)?;
-    }
-    Ok(all)
+    Ok(text.chars().map(|c| c as u32).collect(heap)?)
 }
 
 // Character numbers, one a line.

@@ -91,13 +91,8 @@ fn glyphs_over<S: MeasuredSource + Drop>(
 fn glyphs_command(rt: &HostRuntime, asked: GlyphsOptions) -> Result<(), Failure> {
     match asked.font {
         FontFiles::Label(path) => glyphs_over(rt, read_label(rt, path)?, asked),
-        FontFiles::Tables {
-            cmap,
-            hmtx,
-            metrics,
-            gdef,
-        } => {
-            let tables = TableBytes::read(rt, cmap, gdef, hmtx, metrics)?;
+        FontFiles::Tables(files) => {
+            let tables = TableBytes::read(rt, files)?;
             glyphs_over(rt, tables.font()?, asked)
         }
     }
@@ -129,21 +124,14 @@ fn check_command(rt: &HostRuntime, asked: CheckOptions) -> Result<(), Failure> {
 }
 
 fn asks_help(words: &[String]) -> bool {
-    for word in words {
-        match word.as_str() {
-            "--help" | "-h" => return true,
-            _ => {}
-        }
-    }
-    false
+    words
+        .iter()
+        .any(|word| matches!(word.as_str(), "--help" | "-h"))
 }
 
 fn run(rt: &HostRuntime) -> Result<(), Failure> {
     let heap = rt.alloc();
-    let mut words = Vec::new(heap);
-    for word in env::args(rt)?.skip(1) {
-        words.push(word)?;
-    }
+    let words: Vec<String> = env::args(rt)?.skip(1).collect(heap)?;
     if asks_help(words.as_slice()) {
         return Ok(rt.print(HELP)?);
     }

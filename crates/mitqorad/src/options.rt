@@ -12,13 +12,6 @@ pub struct GlyphsOptions<'a> {
     pub text: &'a str,
 }
 
-// A table that `mitqorad check` takes. Its value is the next word.
-#[derive(Clone, Copy)]
-enum TableOption {
-    Gsub,
-    Gdef,
-}
-
 // What `mitqorad check` is asked for.
 #[derive(Clone, Copy)]
 pub struct CheckOptions<'a> {
@@ -26,55 +19,48 @@ pub struct CheckOptions<'a> {
     pub gdef: Option<&'a str>,
 }
 
-fn is_stdin(path: Option<&str>) -> bool {
-    match path {
-        Some(path) => path == "-",
-        None => false,
-    }
-}
-
 // Standard input can serve as one file only.
 fn wants_stdin_twice(paths: &[Option<&str>]) -> bool {
-    paths.iter().filter(|path| is_stdin(**path)).count() > 1
+    paths.iter().filter(|path| **path == Some("-")).count() > 1
+}
+
+// The value of an option is the next word.
+fn value<'a>(heap: Global, next: Option<&'a String>, what: &str) -> Result<&'a str, Failure> {
+    match next {
+        Some(word) => Ok(word.as_str()),
+        None => sentence(heap, "the last option has no ", what),
+    }
 }
 
 pub fn glyphs_options<'a>(heap: Global, words: &'a [String]) -> Result<GlyphsOptions<'a>, Failure> {
-    let mut font = FontOptions::new();
+    let mut font = FontOptions::default();
     let mut stand_in = None;
-    let mut awaits_stand_in = false;
     let mut codes = false;
     let mut text = None;
-    for word in words {
-        let word = word.as_str();
-        if awaits_stand_in {
-            stand_in = Some(word);
-            awaits_stand_in = false;
-            continue;
-        }
-        if font.take(word) {
-            continue;
-        }
-        match word {
-            "--stand-in" => awaits_stand_in = true,
+    let mut words = words.iter();
+    while let Some(word) = words.next() {
+        match word.as_str() {
+            "--label" => font.label = Some(value(heap, words.next(), "file")?),
+            "--cmap" => font.cmap = Some(value(heap, words.next(), "file")?),
+            "--hmtx" => font.hmtx = Some(value(heap, words.next(), "file")?),
+            "--metrics" => font.metrics = Some(value(heap, words.next(), "number")?),
+            "--gdef" => font.gdef = Some(value(heap, words.next(), "file")?),
+            "--stand-in" => stand_in = Some(value(heap, words.next(), "file")?),
             "--codes" => codes = true,
-            _ => {
-                if word != "-" && word.starts_with('-') {
-                    return sentence(heap, "unknown option ", word);
-                }
-                if text.is_some() {
-                    return sentence(heap, "more than one text: ", word);
-                }
-                text = Some(word);
+            word if word != "-" && word.starts_with('-') => {
+                return sentence(heap, "unknown option ", word);
             }
+            word if text.is_some() => return sentence(heap, "more than one text: ", word),
+            word => text = Some(word),
         }
     }
-    if awaits_stand_in {
-        return sentence(heap, "the last option has no ", "file");
-    }
-    if let Some(what) = font.awaits() {
-        return sentence(heap, "the last option has no ", what);
-    }
-    let [label, cmap, hmtx, gdef] = font.named();
+    let FontOptions {
+        label,
+        cmap,
+        hmtx,
+        metrics: _,
+        gdef,
+    } = font;
     if wants_stdin_twice(&[label, cmap, hmtx, gdef, stand_in, text]) {
         return sentence(heap, "standard input can be one file only", "");
     }
@@ -93,29 +79,17 @@ pub fn glyphs_options<'a>(heap: Global, words: &'a [String]) -> Result<GlyphsOpt
 pub fn check_options<'a>(heap: Global, words: &'a [String]) -> Result<CheckOptions<'a>, Failure> {
     let mut gsub = None;
     let mut gdef = None;
-    let mut awaited = None;
-    for word in words {
-        let word = word.as_str();
-        match (awaited, word) {
-            (Some(TableOption::Gsub), _) => {
-                gsub = Some(word);
-                awaited = None;
-            }
-            (Some(TableOption::Gdef), _) => {
-                gdef = Some(word);
-                awaited = None;
-            }
-            (None, "--gsub") => awaited = Some(TableOption::Gsub),
-            (None, "--gdef") => awaited = Some(TableOption::Gdef),
-            (None, _) => return sentence(
+    let mut words = words.iter();
+    while let Some(word) = words.next() {
+        match word.as_str() {
+            "--gsub" => gsub = Some(value(heap, words.next(), "value")?),
+            "--gdef" => gdef = Some(value(heap, words.next(), "value")?),
+            word => return sentence(
                 heap,
                 "check takes tables by --gsub and --gdef, and not ",
                 word,
             ),
         }
-    }
-    if awaited.is_some() {
-        return sentence(heap, "the last option has no value", "");
     }
     if wants_stdin_twice(&[gsub, gdef]) {
         return sentence(heap, "standard input can be one file only", "");
