@@ -1,3 +1,7 @@
+ghost use Rattle.std.specs.Prelude.{◌<◌, ◌^◌};
+ghost use Rattle.std.specs.Option.{SomeIff};
+ghost use Rattle.std.specs.Str.Parse.{IsNumeral, digits_value};
+
 use crate::failure::{Failure, sentence};
 use crate::input::number_of;
 use std::alloc::Global;
@@ -29,7 +33,10 @@ pub struct FontOptions<'a> {
     pub gdef: Option<&'a str>,
 }
 
-fn metrics_of(word: &str) -> Option<u16> {
+// How many metrics a word writes.
+fn metrics_of(word: &str) -> Option<u16>
+    ensures { SomeIff result (IsNumeral 10 word.now × (digits_value 10 word.now < 2 ^ 16)) (digits_value 10 word.now) }
+{
     u16::try_from(number_of(word)?).ok()
 }
 

@@ -3,6 +3,8 @@ ghost use Rattle.std.specs.Option.{SomeIff};
 ghost use Rattle.std.specs.List.{AllByRecursion};
 ghost use Rattle.std.specs.Str.Lines.{lines};
 ghost use Rattle.std.specs.Str.Parse.{IsNumeral, digits_value};
+ghost use Rattle.font.specs.StandIn.{pairs_of};
+ghost use Rattle.mitqorad.specs.PairLine.{IsNumber, IsPairLine, pair_in};
 
 use crate::failure::Failure;
 use font::pairs::{Pair, PairTable};
@@ -57,7 +59,7 @@ fn bad_line(heap: Global, path: &str, line: usize, should_be: &str) -> Result<Fa
 
 // The number that a line writes: decimal digits and nothing else.
 pub fn number_of(line: &str) -> Option<u32>
-    ensures { SomeIff result (IsNumeral 10 line.now × (digits_value 10 line.now < 2 ^ 32)) (digits_value 10 line.now) }
+    ensures { SomeIff result (IsNumber line.now) (digits_value 10 line.now) }
 {
     if line.starts_with('+') {
         return None;
@@ -88,7 +90,9 @@ pub fn numbered(heap: Global, path: &str, text: &str) -> Result<Vec<u32>, Failur
 }
 
 // A line of a stand-in file: two character numbers, parted by a tab.
-fn pair_of(line: &str) -> Option<Pair> {
+fn pair_of(line: &str) -> Option<Pair>
+    ensures { SomeIff result (IsPairLine line.now) (pair_in line.now) }
+{
     let (character, stand_in) = line.split_once('\t')?;
     Some(Pair {
         character: number_of(character)?,
@@ -97,7 +101,10 @@ fn pair_of(line: &str) -> Option<Pair> {
 }
 
 // Stand-in pairs, one a line.
-pub fn pairs_of(heap: Global, path: &str, text: &str) -> Result<PairTable, Failure> {
+pub fn pairs_of(heap: Global, path: &str, text: &str) -> Result<PairTable, Failure>
+    ensures lines { OnOk result (AllByRecursion IsPairLine (lines text.now)) }
+    ensures pairs { IfOk result (λ table. pairs_of table ≡ map pair_in (lines text.now)) }
+{
     let mut table = PairTable::new();
     for line in text.lines() {
         let Some(pair) = pair_of(line) else {
