@@ -57,9 +57,9 @@ pub fn run_width<S: MeasuredSource, G: HasGlyph>(source: &S, run: &[G]) -> Resul
     if run.len() > 65_535 {
         return Err(Refusal::RunTooLong);
     }
-    let mut sum = 0;
-    for record in run {
-        sum += source.advance(record.glyph()) as u32;
-    }
-    Ok(sum)
+    Ok(
+        run.iter()
+            .map(|record| source.advance(record.glyph()) as u32)
+            .sum(),
+    )
 }
