@@ -48,10 +48,6 @@ impl PairTable {
         ensures answer { told result ≡ (if nat_lt (length (pairs_of self.old)) 32 then gave tt else refused 13 []) }
         ensures pairs { pairs_of self.new ≡ (if nat_lt (length (pairs_of self.old)) 32 then pairs_of self.old ++ pair ∷ [] else pairs_of self.old) }
     {
-        if self.pairs.is_full() {
-            return Err(Refusal::TooManyPairs);
-        }
-        self.pairs.push(pair);
-        Ok(())
+        self.pairs.push(pair).map_err(|_| Refusal::TooManyPairs)
     }
 }

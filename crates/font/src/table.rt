@@ -1,4 +1,4 @@
-ghost use Rattle.std.specs.Prelude.{◌≡◌, ◌<◌, ◌≤◌, [], ◌∷◌, ◌++◌, length, ◌==◌};
+ghost use Rattle.std.specs.Prelude.{◌≡◌, [], ◌∷◌, ◌++◌, length, if◌then◌else◌, Ok, Err, nat_lt};
 
 use std::marker::Model;
 
@@ -45,19 +45,16 @@ impl<T: Blank, const N: usize> Table<T, N> {
         &self.places[..self.count]
     }
 
-    pub fn is_full(&self) -> bool
-        ensures full { result ≡ (length self.now == N) }
-        ensures within { length self.now ≤ N }
+    // One item more; a full table hands it back and does not change.
+    pub fn push(&mut self, item: T) -> Result<(), T>
+        ensures answer { result ≡ (if nat_lt (length self.old) N then Ok tt else Err item) }
+        ensures items { self.new ≡ (if nat_lt (length self.old) N then self.old ++ item ∷ [] else self.old) }
     {
-        self.count == N
-    }
-
-    // One item more.
-    pub fn push(&mut self, item: T)
-        requires { length self.old < N }
-        ensures { self.new ≡ self.old ++ item ∷ [] }
-    {
+        if self.count == N {
+            return Err(item);
+        }
         self.places[self.count] = item;
         self.count += 1;
+        Ok(())
     }
 }

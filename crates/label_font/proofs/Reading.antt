@@ -1,5 +1,5 @@
 -- Label files: one reading for any bytes, and what the reader's steps are in it.
-use Rattle.std.proofs.Common.{◌≡◌, ℕ, ◌+◌, ◌-◌, ◌*◌, ◌<◌, ◌≤◌, Bool, true, false, cond, List, [], ◌∷◌, ◌++◌, length, get_or, drop, None, Ok, Err, Option, Result, sym, refl, ap, ◌∙◌, subst, append_assoc, append-nil, arith, length-append}
+use Rattle.std.proofs.Common.{◌≡◌, ℕ, ◌+◌, ◌-◌, ◌*◌, ◌<◌, ◌≤◌, Bool, true, false, cond, List, [], ◌∷◌, ◌++◌, length, get_or, drop, Some, None, Ok, Err, Option, Result, sym, refl, ap, ◌∙◌, subst, append_assoc, append-nil, arith, length-append}
 use Rattle.std.specs.Str.Parse.{AllDigits, digits_value}
 use Rattle.std.specs.Char.{digit_value}
 use Rattle.std.specs.Option.{option_to_list}
@@ -226,6 +226,10 @@ turn_by above r b k false false p q o s = absurd cc
 
 pub turn : (above : List LabelRow) (r : Reader) (b : ℕ) → Knows above r → (o : Option LabelRow) → Ok o ≡ step_answer r b → (r' : Reader) → r' ≡ stepped r b → Turn above r b (option_to_list o) r'
 turn above r b k o s r' e = subst (λ u. Turn above r b (option_to_list o) u) (sym e) (turn_by above r b k (grows r b) (ends r b) refl refl o s)
+
+-- a byte ends a row only where the table has room for it
+pub room : (above : List LabelRow) (r : Reader) (b : ℕ) (row : LabelRow) → Knows above r → Ok (Some row) ≡ step_answer r b → length above < 256
+room above r b row k s = grind (arith, nat_tests)
 
 -- a refused byte
 fault-by : (above : List LabelRow) (r : Reader) (b : ℕ) (rest : List ℕ) → Knows above r → (g e : Bool) → grows r b ≡ g → ends r b ≡ e → (x : Refusal)

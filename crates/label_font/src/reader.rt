@@ -138,7 +138,8 @@ impl LabelFont {
         let mut reader = Reader::new();
         for byte in bytes {
             if let Some(row) = reader.step(*byte)? {
-                self.rows.push(row);
+                // There is room: the reader has no 257th row.
+                let _ = self.rows.push(row);
             }
         }
         reader.finish()

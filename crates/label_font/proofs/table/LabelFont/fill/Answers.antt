@@ -1,10 +1,11 @@
-use Rattle.std.proofs.Common.{◌≡◌, ◌+◌, [], ◌++◌, get_or, drop, Err, sym, ap, ◌∙◌, subst, append-nil, arith}
+use Rattle.std.proofs.Common.{◌≡◌, ◌+◌, [], ◌∷◌, ◌++◌, get_or, drop, Ok, Err, sym, ap, ◌∙◌, subst, append-nil, arith}
 use Rattle.std.specs.Option.{option_to_list}
 use Rattle.std.proofs.lemmas.List.{drop_more, drop_all}
+use Rattle.std.proofs.lemmas.Bool.Decides.{nat_tests}
 use Rattle.std.proofs.lemmas.Result.{err_from_is_err_and}
 use Rattle.label_font.specs.LabelFont.{rows_of}
 use Rattle.font.specs.Told.{told, told_with}
-use Rattle.label_font.proofs.Reading.{ReadsFrom, turn, faulty, again, finished, knows_start, reads-start}
+use Rattle.label_font.proofs.Reading.{ReadsFrom, turn, faulty, again, finished, knows_start, reads-start, room}
 use Rattle.label_font.proofs.table.LabelFont.fill.Goals as goal
 use Rattle.label_font.proofs.table.LabelFont.fill.Goals.{in-Some, in_default}
 
@@ -28,7 +29,10 @@ loop-byte-preserved c =
     let o = c.in_ok-row.field-0 in
     let t = turn above c.loop-byte.reader b c.loop-byte.invariant.knows o c.in_ok-row.ensures.answer _ c.in_ok-row.ensures.reader in
     let rows : rows_of c.match-branch-2.self ≡ above ++ option_to_list o = elim c.match-branch-2.branch [
-      | in-Some w ↦ ap rows_of w.self-is ∙ w.push.ensures ∙ ap (λ u. above ++ option_to_list u) (sym w.in-Some.is)
+      | in-Some w ↦
+          let space = room above c.loop-byte.reader b w.in-Some.row c.loop-byte.invariant.knows (ap Ok (sym w.in-Some.is) ∙ c.in_ok-row.ensures.answer) in
+          let pushed : w.push.new.self ≡ above ++ w.in-Some.row ∷ [] = grind (arith, nat_tests) in
+          ap rows_of w.self-is ∙ pushed ∙ ap (λ u. above ++ option_to_list u) (sym w.in-Some.is)
       | in_default w ↦ ap rows_of w.self-is ∙ sym (append-nil above) ∙ ap (λ u. above ++ option_to_list u) (sym w.in_default.is)
     ] in
     let k = again c.args.bytes.now c.loop-byte.byte-index (omega arith) above c.loop-byte.reader c.loop-byte.invariant.left (option_to_list o) c.step.new.self t (rows_of c.match-branch-2.self) rows in
