@@ -15,7 +15,7 @@ pub fn read_label(rt: &HostRuntime, path: &str) -> Result<LabelFont, Failure> {
 #[derive(Drop)]
 pub struct TableBytes {
     cmap: Vec<u8>,
-    // Empty where there is no such table.
+    // Empty where there is no such table, as `TableFont::read` has it.
     gdef: Vec<u8>,
     hmtx: Vec<u8>,
     metrics: u16,

@@ -80,6 +80,7 @@ pub fn numbered(heap: Global, path: &str, text: &str) -> Result<Vec<u32>, Failur
     ensures values { IfOk result (λ all. all.items ≡ map (digits_value 10) (lines text.now)) }
 {
     let mut all = Vec::new(heap);
+    // A loop, since a bad line ends it with an error that tells the line and itself needs memory.
     for line in text.lines() {
         let Some(character) = number_of(line) else {
             return Err(bad_line(heap, path, all.len() + 1, "a character's number")?);
@@ -106,6 +107,7 @@ pub fn pairs_of(heap: Global, path: &str, text: &str) -> Result<PairTable, Failu
     ensures pairs { IfOk result (λ table. pairs_of table ≡ map pair_in (lines text.now)) }
 {
     let mut table = PairTable::new();
+    // A loop for the same reason, and since a pair too many is refused.
     for line in text.lines() {
         let Some(pair) = pair_of(line) else {
             return Err(bad_line(

@@ -25,6 +25,7 @@ pub fn numbers_line(heap: Global, title: &str, numbers: &[u16]) -> Result<String
     ensures { IfOk result (λ line. string_bytes line ≡ title.now ++ flat_map (λ n. codes " " ++ decimal n) numbers.now) }
 {
     let mut line = String::from_str(heap, title)?;
+    // A loop, since what a chain collects would have to be joined to the title in a second text.
     for n in numbers {
         line.push_str(format!(in heap; " {n}")?.as_str())?;
     }
