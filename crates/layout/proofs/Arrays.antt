@@ -1,5 +1,5 @@
 -- Arrays in a structure without faults.
-use Rattle.std.proofs.Common.{◌≡◌, ℕ, zero, suc, ◌+◌, ◌-◌, ◌*◌, ◌<◌, ◌≤◌, false, cond, ◌||◌, eqb, leb, List, [], ◌∷◌, ◌++◌, length, get_or, Some, None, sym, ap, subst, arith}
+use Rattle.std.proofs.Common.{◌≡◌, ℕ, zero, suc, ◌+◌, ◌-◌, ◌*◌, ◌<◌, ◌≤◌, false, cond, eqb, leb, List, [], ◌∷◌, length, get_or, Some, None, ap, subst, arith}
 use Rattle.std.proofs.lemmas.Bool.{leb-true}
 use Rattle.std.proofs.lemmas.Bool.Decides.{nat_tests}
 use Rattle.layout.specs.declared.array.Kind.{Kind}
@@ -7,12 +7,12 @@ use Rattle.layout.specs.declared.array.Kind.TheVariants.{Glyphs, Records, Groups
 use Rattle.layout.specs.declared.array.Laid.{Laid}
 use Rattle.layout.specs.declared.array.Range.{Range}
 use Rattle.layout.specs.declared.array.Third.{Third}
-use Rattle.layout.specs.declared.array.Third.TheVariants.{Any, StartIndex}
+use Rattle.layout.specs.declared.array.Third.TheVariants.{StartIndex}
 use Rattle.layout.specs.Bytes.{u16_at}
 use Rattle.layout.specs.Classes.{class_faults, list_faults, range_faults}
 use Rattle.layout.specs.Coverages.{kind_of, coverage_faults}
 use Rattle.layout.specs.Faults.{first_in, extent, unless, format_faults}
-use Rattle.layout.specs.Ranges.{field_size, entry_size, field_count, ranges_from, Rises, last_from, last_of, size, entry_faults, order_faults, array_faults}
+use Rattle.layout.specs.Ranges.{counted_faults, field_size, entry_size, field_count, ranges_from, Rises, last_from, last_of, size, entry_faults, order_faults, array_faults}
 use Rattle.layout.proofs.Firsts.{none-parts, unless-none}
 use Rattle.layout.proofs.Order.{rises-from, entry-inside}
 
@@ -41,17 +41,17 @@ module _ (third : Third) (kind : Kind) (t : List ℕ) (s i n : ℕ) (e : first_i
 pub same-ranges : {kind kind' : Kind} (t : List ℕ) {at at' n n' : ℕ} → kind ≡ kind' → at ≡ at' → n ≡ n' → ranges_from kind t at 0 n ≡ ranges_from kind' t at' 0 n'
 same-ranges t a b c = cc
 
-module _ (t : List ℕ) (s : ℕ) where
-  -- the array of a coverage
-  pub coverage-array : first_in (coverage_faults t s) ≡ None → first_in (array_faults StartIndex (kind_of (u16_at t s)) t s (s + 4) (u16_at t (s + 2))) ≡ None
-  coverage-array e = (none-parts (extent t s (s + 2) 2 1) _ (none-parts (format_faults t s 2) _ e).1).1
+-- the array behind a format and a count
+pub counted-array : (third : Third) (kind : Kind) (t : List ℕ) (s : ℕ) → first_in (counted_faults third kind t s) ≡ None → first_in (array_faults third kind t s (s + 4) (u16_at t (s + 2))) ≡ None
+counted-array third kind t s e = (none-parts (extent t s (s + 2) 2 1) _ e).1
 
-  -- the faults of a class definition of format 2, and its array
+module _ (t : List ℕ) (s : ℕ) where
+  pub coverage-counted : first_in (coverage_faults t s) ≡ None → first_in (counted_faults StartIndex (kind_of (u16_at t s)) t s) ≡ None
+  coverage-counted e = (none-parts (format_faults t s 2) _ e).1
+
+  -- the faults of a class definition of format 2
   pub class-ranges-none : first_in (class_faults t s) ≡ None → eqb (u16_at t s) 1 ≡ false → first_in (range_faults t s) ≡ None
   class-ranges-none e f = subst (λ b. first_in (cond b (list_faults t s) (range_faults t s)) ≡ None) f (none-parts (format_faults t s 2) _ e).1
-
-  pub class-array : first_in (range_faults t s) ≡ None → first_in (array_faults Any Records t s (s + 4) (u16_at t (s + 2))) ≡ None
-  class-array e = (none-parts (extent t s (s + 2) 2 1) _ e).1
 
 start_is : (kind : Kind) (s i low before : ℕ) (r : Range) (rs : List Range) → first_in (order_faults StartIndex kind s i low before (r ∷ rs)) ≡ None → r.value ≡ before
 start_is kind s i low before r rs e =

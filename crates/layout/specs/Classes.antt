@@ -6,11 +6,11 @@ use Rattle.layout.specs.declared.array.Third.TheVariants.{Any}
 use Rattle.layout.specs.Bytes.{u16_at}
 use Rattle.layout.specs.declared.fault.Fault.{Fault}
 use Rattle.layout.specs.Faults.{extent, format_faults}
-use Rattle.layout.specs.Ranges.{ranges_from, holding, array_faults}
+use Rattle.layout.specs.Ranges.{counted_ranges, counted_faults, holding}
 
 -- The ranges of format 2: count, and from byte 4 on the entries.
 abbrev pub class_ranges : (table : List ℕ) → (s : ℕ) → List Range
-class_ranges t s = ranges_from Records t (s + 4) 0 (u16_at t (s + 2))
+class_ranges t s = counted_ranges Records t s
 
 -- Format 1: the first glyph, the count and the array lie in the table.
 abbrev pub list_faults : (table : List ℕ) → (s : ℕ) → List Fault
@@ -18,7 +18,7 @@ list_faults t s = extent t s (s + 2) 2 2 ++ extent t s (s + 6) 2 (u16_at t (s + 
 
 -- Format 2: the count and the array lie in the table; then the order of the ranges.
 abbrev pub range_faults : (table : List ℕ) → (s : ℕ) → List Fault
-range_faults t s = extent t s (s + 2) 2 1 ++ array_faults Any Records t s (s + 4) (u16_at t (s + 2))
+range_faults t s = counted_faults Any Records t s
 
 -- The faults of the class definition at s.
 abbrev pub class_faults : (table : List ℕ) → (s : ℕ) → List Fault

@@ -1,27 +1,24 @@
 -- Coverages: which glyphs a subtable is for, and the index of each. Format 1 lists glyphs, format 2 ranges of them.
-use Rattle.std.specs.Prelude.{ℕ, ◌+◌, ◌-◌, ◌*◌, cond, ◌&&◌, ◌||◌, List, ◌++◌, Some, None, Option, ◌==◌, nat_le}
+use Rattle.std.specs.Prelude.{ℕ, ◌+◌, ◌-◌, cond, List, ◌++◌, Some, None, Option, ◌==◌}
 use Rattle.layout.specs.declared.array.Kind.{Kind}
 use Rattle.layout.specs.declared.array.Kind.TheVariants.{Glyphs, Records}
 use Rattle.layout.specs.declared.array.Range.{Range}
 use Rattle.layout.specs.declared.array.Third.TheVariants.{StartIndex}
 use Rattle.layout.specs.Bytes.{u16_at}
 use Rattle.layout.specs.declared.fault.Fault.{Fault}
-use Rattle.layout.specs.Faults.{extent, format_faults}
-use Rattle.layout.specs.Ranges.{ranges_from, holding, array_faults}
+use Rattle.layout.specs.Faults.{format_faults}
+use Rattle.layout.specs.Ranges.{counted_ranges, counted_faults, holding}
 
 abbrev pub kind_of : (format : ℕ) → Kind
 kind_of f = cond (f == 1) Glyphs Records
 
 -- The ranges of the coverage at s: format, count, and from byte 4 on the entries.
 abbrev pub coverage_ranges : (table : List ℕ) → (s : ℕ) → List Range
-coverage_ranges t s = ranges_from (kind_of (u16_at t s)) t (s + 4) 0 (u16_at t (s + 2))
+coverage_ranges t s = counted_ranges (kind_of (u16_at t s)) t s
 
 -- Its faults: format, count and the array's extent; then, entry by entry, order and start index.
 abbrev pub coverage_faults : (table : List ℕ) → (s : ℕ) → List Fault
-coverage_faults t s =
-    format_faults t s 2
-    ++ (extent t s (s + 2) 2 1
-    ++ array_faults StartIndex (kind_of (u16_at t s)) t s (s + 4) (u16_at t (s + 2)))
+coverage_faults t s = format_faults t s 2 ++ counted_faults StartIndex (kind_of (u16_at t s)) t s
 
 -- The index of a glyph: its range's start index, and how far into the range it is.
 abbrev pub index_in : (glyph : ℕ) → Option Range → Option ℕ

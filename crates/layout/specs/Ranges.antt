@@ -101,3 +101,10 @@ order_faults third kind s i low before (r ∷ rs) =
 -- The faults of an array of n entries from byte i on, in the structure at `start`: its extent, then the entries in order.
 abbrev pub array_faults : Third → Kind → (table : List ℕ) → (start i n : ℕ) → List Fault
 array_faults third kind t s i n = extent t s i (field_size kind) (field_count kind * n) ++ order_faults third kind s i 0 0 (ranges_from kind t i 0 n)
+
+-- Ranges behind a format and their count, as coverages and class definitions have them; and their faults.
+abbrev pub counted_ranges : Kind → (table : List ℕ) → (s : ℕ) → List Range
+counted_ranges kind t s = ranges_from kind t (s + 4) 0 (u16_at t (s + 2))
+
+abbrev pub counted_faults : Third → Kind → (table : List ℕ) → (s : ℕ) → List Fault
+counted_faults third kind t s = extent t s (s + 2) 2 1 ++ array_faults third kind t s (s + 4) (u16_at t (s + 2))

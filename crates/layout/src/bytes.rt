@@ -36,12 +36,11 @@ impl Width {
 pub trait Field: Copy {
     ghost use Rattle.layout.specs.declared.bytes.Width.{Width};
 
-    ghost width: { Width };
+    ghost WIDTH: { Width };
 
     ghost value: { (table : List ℕ) → (byte : ℕ) → Self };
 
-    fn width() -> Width
-        ensures { result ≡ width };
+    const WIDTH: Width;
 
     // The number at a byte; bytes past the end read as 0.
     fn read(table: &[u8], at: usize) -> Self
@@ -55,13 +54,11 @@ fn byte_at(table: &[u8], at: usize) -> u8
 }
 
 impl Field for u16 {
-    ghost width = { Two };
+    ghost WIDTH = { Two };
 
     ghost value = { u16_at };
 
-    fn width() -> Width {
-        Width::Two
-    }
+    const WIDTH: Width = Width::Two;
 
     fn read(table: &[u8], at: usize) -> u16 {
         if at >= table.len() {
@@ -72,13 +69,11 @@ impl Field for u16 {
 }
 
 impl Field for u32 {
-    ghost width = { Four };
+    ghost WIDTH = { Four };
 
     ghost value = { u32_at };
 
-    fn width() -> Width {
-        Width::Four
-    }
+    const WIDTH: Width = Width::Four;
 
     fn read(table: &[u8], at: usize) -> u32 {
         if at >= table.len() {

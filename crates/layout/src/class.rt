@@ -4,7 +4,7 @@ ghost use Rattle.layout.specs.Faults.{first_in};
 ghost use Rattle.layout.specs.Told.{verdict, byte_verdict};
 ghost use Rattle.layout.specs.Ranges.{holding};
 
-use crate::array::{Kind, Range, RangeArray, Third};
+use crate::array::{Kind, Range, Third};
 use crate::bytes::{Field, Width};
 use crate::fault::{ByteFault, StructureFault};
 use crate::structure::Structure;
@@ -22,7 +22,7 @@ impl ClassDefinition<'_> {
     {
         match self.structure.format(2)? {
             1 => Ok(self.check_list()?),
-            _ => self.check_ranges(),
+            _ => self.structure.check_ranges(Kind::Records, Third::Any),
         }
     }
 
@@ -31,25 +31,10 @@ impl ClassDefinition<'_> {
         requires { self.now.structure.start + 2 ≤ length self.now.structure.table.now }
         ensures { byte_verdict result ≡ first_in (list_faults self.now.structure.table.now self.now.structure.start) }
     {
-        let Structure { table, start } = self.structure;
-        self.structure.check_fields(start + 2, Width::Two, 2)?;
-        let count = u16::read(table, start + 4);
-        self.structure.check_fields(start + 6, Width::Two, u64::from(count))
-    }
-
-    // Format 2.
-    fn check_ranges(&self) -> Result<(), StructureFault>
-        requires { self.now.structure.start + 2 ≤ length self.now.structure.table.now }
-        ensures { verdict result ≡ first_in (range_faults self.now.structure.table.now self.now.structure.start) }
-    {
         let structure = self.structure;
-        let ranges = RangeArray {
-            structure,
-            kind: Kind::Records,
-            count: u32::from(structure.field::<u16>(structure.start + 2)?),
-            at: structure.start + 4,
-        };
-        ranges.check(Third::Any)
+        structure.check_fields(structure.start + 2, Width::Two, 2)?;
+        let count = u64::from(structure.u16_in(4));
+        structure.check_fields(structure.start + 6, Width::Two, count)
     }
 
     // The class of a glyph; 0 where it is not listed.
@@ -81,12 +66,6 @@ impl ClassDefinition<'_> {
         ensures range { first_in (range_faults self.now.structure.table.now self.now.structure.start) ≡ None → result ≡ holding glyph (class_ranges self.now.structure.table.now self.now.structure.start) }
         ensures bound { IfSome result (λ range. range.value < 65536) }
     {
-        let ranges = RangeArray {
-            structure: self.structure,
-            kind: Kind::Records,
-            at: self.structure.start.saturating_add(4),
-            count: u32::from(self.structure.u16_in(2)),
-        };
-        ranges.find(u32::from(glyph))
+        self.structure.ranges(Kind::Records).find(u32::from(glyph))
     }
 }

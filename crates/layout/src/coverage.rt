@@ -30,14 +30,8 @@ impl<'a> Coverage<'a> {
     pub fn check(&self) -> Result<(), StructureFault>
         ensures { verdict result ≡ first_in (coverage_faults self.now.structure.table.now self.now.structure.start) }
     {
-        let structure = self.structure;
-        let ranges = RangeArray {
-            structure,
-            kind: kind_of(structure.format(2)?),
-            count: u32::from(structure.field::<u16>(structure.start + 2)?),
-            at: structure.start + 4,
-        };
-        ranges.check(Third::StartIndex)
+        let kind = kind_of(self.structure.format(2)?);
+        self.structure.check_ranges(kind, Third::StartIndex)
     }
 
     // Its ranges, which rise.
@@ -46,12 +40,8 @@ impl<'a> Coverage<'a> {
         ensures inside { first_in (coverage_faults self.now.structure.table.now self.now.structure.start) ≡ None → Inside result }
         ensures rises { first_in (coverage_faults self.now.structure.table.now self.now.structure.start) ≡ None → Rises 0 (ranges_of result) }
     {
-        RangeArray {
-            structure: self.structure,
-            kind: kind_of(self.structure.u16_in(0)),
-            at: self.structure.start.saturating_add(4),
-            count: u32::from(self.structure.u16_in(2)),
-        }
+        let kind = kind_of(self.structure.u16_in(0));
+        self.structure.ranges(kind)
     }
 
     // How many glyphs it has: the last one's index and one.

@@ -1,12 +1,13 @@
-ghost use Rattle.std.specs.Prelude.{◌≡◌, ◌+◌, ◌*◌, ◌<◌, ◌≤◌, length, IfOk, IfSome, OnOk, slice_index_or};
+ghost use Rattle.std.specs.Prelude.{◌≡◌, ◌+◌, ◌*◌, ◌<◌, ◌≤◌, length, IfOk, IfSome, OnOk, slice_index_or, None};
 ghost use Rattle.layout.specs.Bytes.{bytes_of};
 ghost use Rattle.layout.specs.Faults.{first_in, extent};
-ghost use Rattle.layout.specs.Ranges.{Inside, Rises, holding, last_of, ranges_of, entry_faults, field_size, field_count, entry_size, range_at, value_bound, third_faults, order_faults, array_faults};
+ghost use Rattle.layout.specs.Ranges.{counted_faults, counted_ranges, Inside, Rises, holding, last_of, ranges_of, entry_faults, field_size, field_count, entry_size, range_at, value_bound, third_faults, order_faults, array_faults};
 ghost use Rattle.layout.specs.Told.{verdict, byte_verdict};
 
 use crate::array::{Kind, Laid, Range, RangeArray, Third};
 use crate::bytes::{Field, Width};
 use crate::fault::{ByteFault, Rule, StructureFault};
+use crate::structure::Structure;
 
 impl Kind {
     fn width(self) -> Width
@@ -79,14 +80,48 @@ impl Kind {
     }
 }
 
+impl<'a> Structure<'a> {
+    // The ranges behind its format and their count.
+    pub(crate) fn ranges(&self, kind: Kind) -> RangeArray<'a>
+        ensures ranges { (third : Third) → first_in (counted_faults third kind self.now.table.now self.now.start) ≡ None → (ranges_of result ≡ counted_ranges kind self.now.table.now self.now.start) × Inside result × Rises 0 (ranges_of result) }
+        ensures kind { result.kind ≡ kind }
+    {
+        RangeArray {
+            structure: *self,
+            kind,
+            at: self.start.saturating_add(4),
+            count: u32::from(self.u16_in(2)),
+        }
+    }
+
+    pub(crate) fn check_ranges(&self, kind: Kind, third: Third) -> Result<(), StructureFault>
+        requires { self.now.start + 2 ≤ length self.now.table.now }
+        ensures { verdict result ≡ first_in (counted_faults third kind self.now.table.now self.now.start) }
+    {
+        let count = self.field::<u16>(self.start + 2)?;
+        let ranges = RangeArray {
+            structure: *self,
+            kind,
+            at: self.start + 4,
+            count: u32::from(count),
+        };
+        ranges.check(third)
+    }
+}
+
 impl<'a> RangeArray<'a> {
     // All fields of the array lie in the table; else the first that does not.
     fn laid(&self) -> Result<Laid<'a>, ByteFault>
         ensures answer { byte_verdict result ≡ first_in (extent self.now.structure.table.now self.now.structure.start self.now.at (field_size self.now.kind) (field_count self.now.kind * self.now.count)) }
         ensures array { IfOk result (λ laid. laid.array ≡ self.now) }
     {
-        let fields = self.kind.fields(self.count);
-        self.structure.check_fields(self.at, self.kind.width(), fields)?;
+        let RangeArray {
+            structure,
+            kind,
+            at,
+            count,
+        } = *self;
+        structure.check_fields(at, kind.width(), kind.fields(count))?;
         Ok(Laid { array: *self })
     }
 

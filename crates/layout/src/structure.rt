@@ -34,10 +34,10 @@ impl<'a> Structure<'a> {
 
     // The field that stands at a byte.
     pub fn field<F: Field>(&self, at: usize) -> Result<F, ByteFault>
-        ensures answer { byte_verdict result ≡ first_in (extent self.now.table.now self.now.start at (bytes_of F.width) 1) }
-        ensures value { IfOk result (λ v. (v ≡ F.value self.now.table.now at) × (at + bytes_of F.width ≤ length self.now.table.now)) }
+        ensures answer { byte_verdict result ≡ first_in (extent self.now.table.now self.now.start at (bytes_of F.WIDTH) 1) }
+        ensures value { IfOk result (λ v. (v ≡ F.value self.now.table.now at) × (at + bytes_of F.WIDTH ≤ length self.now.table.now)) }
     {
-        self.check_fields(at, F::width(), 1)?;
+        self.check_fields(at, F::WIDTH, 1)?;
         Ok(F::read(self.table, at))
     }
 

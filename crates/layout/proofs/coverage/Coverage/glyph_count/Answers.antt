@@ -3,7 +3,7 @@ use Rattle.layout.specs.declared.array.Third.TheVariants.{StartIndex}
 use Rattle.layout.specs.Bytes.{u16_at}
 use Rattle.layout.specs.Coverages.{kind_of, coverage_ranges}
 use Rattle.layout.specs.Ranges.{last_of}
-use Rattle.layout.proofs.Arrays.{array-order, coverage-array, count-last}
+use Rattle.layout.proofs.Arrays.{array-order, counted-array, coverage-counted, count-last}
 use Rattle.layout.proofs.coverage.Coverage.glyph_count.Goals as goal
 
 pub returns-in-Some : goal.returns-in-Some
@@ -11,5 +11,5 @@ returns-in-Some c = λ none.
     let t = c.args.self.now.structure.table.now in
     let s = c.args.self.now.structure.start in
     let l = c.in-Some.ensures (c.ranges-2.ensures.inside none) ∙ ap last_of (c.ranges-2.ensures.ranges none) in
-    let n = count-last (kind_of (u16_at t s)) s (s + 4) (coverage_ranges t s) c.in-Some.range (array-order StartIndex (kind_of (u16_at t s)) t s (s + 4) (u16_at t (s + 2)) (coverage-array t s none)) l in
+    let n = count-last (kind_of (u16_at t s)) s (s + 4) (coverage_ranges t s) c.in-Some.range (array-order StartIndex (kind_of (u16_at t s)) t s (s + 4) (u16_at t (s + 2)) (counted-array StartIndex (kind_of (u16_at t s)) t s (coverage-counted t s none))) l in
     omega arith
