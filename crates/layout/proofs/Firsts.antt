@@ -37,6 +37,17 @@ module _ {X : Type 0} (each : ℕ → ℕ → List X) (w i n k : ℕ) (h : k < n
   pub turn-stops : (x : X) → Some x ≡ first_in (each k i) → first_in (in_turn each w k i (n - k)) ≡ Some x
   turn-stops x e = ap first_in turn_at ∙ first-before (each k i) _ x (sym e)
 
+-- the same, where element k stands w times k bytes behind the first
+module _ {X : Type 0} (each : ℕ → ℕ → List X) (w i n k : ℕ) (h : k < n) where
+  next : i + w * k + w ≡ i + w * (k + 1)
+  next = let m = mul-suc w k in omega arith
+
+  pub goes_on : None ≡ first_in (each k (i + w * k)) → first_in (in_turn each w k (i + w * k) (n - k)) ≡ first_in (in_turn each w (k + 1) (i + w * (k + 1)) (n - (k + 1)))
+  goes_on none = turn_on each w (i + w * k) n k h none ∙ ap (λ u. first_in (in_turn each w (k + 1) u (n - (k + 1)))) next
+
+  pub stops_here : (x : X) → Some x ≡ first_in (each k (i + w * k)) → first_in (in_turn each w k (i + w * k) (n - k)) ≡ Some x
+  stops_here = turn-stops each w (i + w * k) n k h
+
 -- faults with a place: there are some exactly where there are some without
 pub reports-none : (p : Place) (xs : List Fault) → first_in xs ≡ None → first_in (reports p xs) ≡ None
 reports-none p [] e = refl

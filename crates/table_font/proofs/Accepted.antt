@@ -1,24 +1,20 @@
--- Tables that have no fault.
-use Rattle.std.proofs.Common.{◌≡◌, ℕ, false, List, is_some, Some, None, Option, refl, arith}
-use Rattle.layout.specs.declared.fault.TableName.TheVariants.{Cmap, Gdef}
+-- Tables without faults.
+use Rattle.std.proofs.Common.{◌≡◌, ℕ, List, None, sym, ◌∙◌}
+use Rattle.layout.specs.declared.fault.Fault.{Fault}
+use Rattle.layout.specs.declared.fault.TableName.{TableName}
+use Rattle.layout.specs.declared.fault.TableName.TheVariants.{Cmap, Gdef, Hmtx}
 use Rattle.layout.specs.Faults.{first_in, own_place, too_long}
-use Rattle.layout.proofs.Firsts.{none-parts, none-reports}
+use Rattle.layout.proofs.Firsts.{first-behind, none-parts, none-reports}
 use Rattle.table_font.specs.Cmap.{cmap_faults}
 use Rattle.table_font.specs.Gdef.{gdef_faults}
+use Rattle.table_font.specs.Hmtx.{hmtx_faults}
 use Rattle.table_font.specs.TableFont.{table_faults, font_faults}
 
-none_is : {X : Type 0} (x : Option X) → is_some x ≡ false → x ≡ None
-none_is None e = refl
-none_is (Some y) e = let z : ◌≡◌ {A = ℕ} 0 1 = cc in absurd (omega arith)
+-- a table without faults has a structure without faults
+pub accepted : (name : TableName) (t : List ℕ) (faults : List Fault) → first_in (table_faults name t faults) ≡ None → first_in faults ≡ None
+accepted name t faults e = none-reports (own_place name) faults (none-parts (too_long name t) _ e).1
 
-module _ (cmap gdef hmtx : List ℕ) (n : ℕ) (e : is_some (first_in (font_faults cmap gdef hmtx n)) ≡ false) where
-  pub cmap-accepted : first_in (cmap_faults cmap) ≡ None
-  cmap-accepted =
-      let a = (none-parts (table_faults Cmap cmap (cmap_faults cmap)) _ (none_is _ e)).0 in
-      none-reports (own_place Cmap) (cmap_faults cmap) (none-parts (too_long Cmap cmap) _ a).1
-
-  pub gdef-accepted : first_in (gdef_faults gdef) ≡ None
-  gdef-accepted =
-      let a = (none-parts (table_faults Cmap cmap (cmap_faults cmap)) _ (none_is _ e)).1 in
-      let b = (none-parts (table_faults Gdef gdef (gdef_faults gdef)) _ a).0 in
-      none-reports (own_place Gdef) (gdef_faults gdef) (none-parts (too_long Gdef gdef) _ b).1
+-- behind a cmap subtable and a GDEF table without faults
+pub third : (cmap gdef hmtx : List ℕ) (n : ℕ) → None ≡ first_in (table_faults Cmap cmap (cmap_faults cmap)) → None ≡ first_in (table_faults Gdef gdef (gdef_faults gdef))
+    → first_in (font_faults cmap gdef hmtx n) ≡ first_in (table_faults Hmtx hmtx (hmtx_faults hmtx n))
+third cmap gdef hmtx n e f = first-behind (table_faults Cmap cmap (cmap_faults cmap)) _ (sym e) ∙ first-behind (table_faults Gdef gdef (gdef_faults gdef)) _ (sym f)

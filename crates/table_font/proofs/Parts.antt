@@ -1,7 +1,8 @@
 -- The parts of a GDEF table.
 use Rattle.std.proofs.Common.{◌≡◌, ℕ, ◌+◌, false, cond, eqb, List, [], ◌∷◌, ◌++◌, length, None, sym, refl, ap, ◌∙◌, arith}
 use Rattle.std.proofs.lemmas.Bool.Decides.{nat_tests}
-use Rattle.layout.specs.Faults.{Fault, first_in, if_there}
+use Rattle.layout.specs.declared.fault.Fault.{Fault}
+use Rattle.layout.specs.Faults.{first_in, if_there}
 use Rattle.layout.specs.Bytes.{u16_at}
 use Rattle.layout.specs.Classes.{class_faults, class_at, class_behind}
 use Rattle.layout.proofs.Firsts.{none-parts}

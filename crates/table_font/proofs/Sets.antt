@@ -1,8 +1,8 @@
 -- The coverages of mark sets without faults.
 use Rattle.std.proofs.Common.{◌≡◌, ℕ, ◌+◌, ◌*◌, ◌<◌, not, eqb, List, None}
 use Rattle.layout.specs.Bytes.{u16_at, u32_at}
-use Rattle.layout.specs.Coverages.{format_faults, coverage_faults}
-use Rattle.layout.specs.Faults.{first_in, unless, extent}
+use Rattle.layout.specs.Coverages.{coverage_faults}
+use Rattle.layout.specs.Faults.{first_in, unless, extent, format_faults}
 use Rattle.layout.proofs.Firsts.{none-parts, turn-nth}
 use Rattle.table_font.specs.Gdef.{set_faults_at, mark_sets_faults}
 

@@ -4,7 +4,8 @@ use Rattle.layout.specs.declared.array.Kind.TheVariants.{Groups}
 use Rattle.layout.specs.declared.array.Range.{Range}
 use Rattle.layout.specs.declared.array.Third.TheVariants.{GlyphsTo65535}
 use Rattle.layout.specs.Bytes.{u16_at, u32_at}
-use Rattle.layout.specs.Faults.{Fault, unless, extent}
+use Rattle.layout.specs.declared.fault.Fault.{Fault}
+use Rattle.layout.specs.Faults.{unless, extent}
 use Rattle.layout.specs.Ranges.{ranges_from, holding, array_faults}
 
 -- The groups: from byte 16 on, as many as byte 12 says.

@@ -2,8 +2,9 @@
 use Rattle.std.specs.Prelude.{ℕ, ◌+◌, ◌*◌, Bool, cond, not, ◌&&◌, ◌||◌, List, [], ◌++◌, length, is_some, ◌==◌, nat_le, nat_lt}
 use Rattle.layout.specs.Bytes.{u16_at, u32_at}
 use Rattle.layout.specs.Classes.{class_faults, class_behind}
-use Rattle.layout.specs.Coverages.{format_faults, coverage_faults, coverage_index}
-use Rattle.layout.specs.Faults.{Fault, unless, extent, in_turn, if_there}
+use Rattle.layout.specs.Coverages.{coverage_faults, coverage_index}
+use Rattle.layout.specs.declared.fault.Fault.{Fault}
+use Rattle.layout.specs.Faults.{unless, extent, format_faults, in_turn, if_there}
 
 -- The offset of the mark sets, which are there from minor version 2 on; 0 for none.
 abbrev pub mark_sets_offset : (table : List ℕ) → ℕ

@@ -4,7 +4,8 @@ use Rattle.font.specs.Font.{Font}
 use Rattle.layout.specs.declared.fault.Report.{Report}
 use Rattle.layout.specs.declared.fault.TableName.{TableName}
 use Rattle.layout.specs.declared.fault.TableName.TheVariants.{Cmap, Gdef, Hmtx}
-use Rattle.layout.specs.Faults.{Fault, reports, own_place, too_long}
+use Rattle.layout.specs.declared.fault.Fault.{Fault}
+use Rattle.layout.specs.Faults.{reports, own_place, too_long}
 use Rattle.table_font.specs.Cmap.{cmap_faults, glyph_of}
 use Rattle.table_font.specs.Gdef.{gdef_faults, glyph_class, mark_class_of, in_set}
 use Rattle.table_font.specs.Hmtx.{hmtx_faults}

@@ -1,6 +1,7 @@
 // A font read from a cmap subtable, a GDEF table and hmtx.
 #![tactic(auto)]
 
+mod check;
 pub mod cmap;
 pub mod gdef;
 pub mod hmtx;

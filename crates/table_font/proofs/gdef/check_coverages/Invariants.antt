@@ -5,5 +5,6 @@ use Rattle.table_font.proofs.gdef.check_coverages.Given as goal
 
 -- the coverages that are left have the same first fault as all
 abbrev pub invariant-loop-k : goal.invariant-loop-k
-invariant-loop-k l = (l.at ≡ l.start + 4 + 4 * l._k)
-    × (first_in (in_turn (λ k i. set_faults_at l.table l.start i) 4 l._k l.at (l.count - l._k)) ≡ first_in (in_turn (λ k i. set_faults_at l.table l.start i) 4 0 (l.start + 4) l.count))
+invariant-loop-k l =
+    first_in (in_turn (λ k i. set_faults_at l.sets.table.now l.sets.start i) 4 l.k (l.sets.start + 4 + 4 * l.k) (l.count - l.k))
+    ≡ first_in (in_turn (λ k i. set_faults_at l.sets.table.now l.sets.start i) 4 0 (l.sets.start + 4) l.count)
