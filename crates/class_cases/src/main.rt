@@ -3,8 +3,9 @@
 #![tactic(auto)]
 
 use layout::class::ClassDefinition;
-use layout::coverage::{Coverage, glyph_count};
+use layout::coverage::Coverage;
 use layout::fault::StructureFault;
+use layout::structure::Structure;
 use std::alloc::{AllocError, Global};
 use std::io;
 use std::io::{BufRead, BufReader};
@@ -27,11 +28,11 @@ fn bytes_of(heap: Global, words: &str, length: usize) -> Result<Vec<u8>, AllocEr
 }
 
 fn print_fault(rt: &HostRuntime, name: &str, fault: StructureFault) -> io::Result<()> {
-    let (number, start, at) = fault.told();
-    println!(rt; "{name}: fault {number} structure {start} byte {at}")
+    let fault = fault.told();
+    println!(rt; "{name}: {fault}")
 }
 
-fn print_indices(rt: &HostRuntime, coverage: Coverage<'_>, glyphs: &str) -> io::Result<()> {
+fn print_indices(rt: &HostRuntime, coverage: &Coverage<'_>, glyphs: &str) -> io::Result<()> {
     for word in glyphs.split_whitespace() {
         let glyph = word.parse::<u16>().unwrap_or(0);
         match coverage.index_of(glyph) {
@@ -42,7 +43,7 @@ fn print_indices(rt: &HostRuntime, coverage: Coverage<'_>, glyphs: &str) -> io::
     println!(rt; "")
 }
 
-fn print_classes(rt: &HostRuntime, classes: ClassDefinition<'_>, glyphs: &str) -> io::Result<()> {
+fn print_classes(rt: &HostRuntime, classes: &ClassDefinition<'_>, glyphs: &str) -> io::Result<()> {
     for word in glyphs.split_whitespace() {
         let glyph = word.parse::<u16>().unwrap_or(0);
         let class = classes.class_of(glyph);
@@ -60,21 +61,27 @@ fn case(rt: &HostRuntime, line: &str) -> io::Result<()> {
     let start = number(parts.next().unwrap_or(""));
     let glyphs = parts.next().unwrap_or("");
     let bytes = bytes_of(rt.alloc(), words, length)?;
-    let table = bytes.as_slice();
+    let structure = Structure {
+        table: bytes.as_slice(),
+        start,
+    };
     if kind == "classes" {
-        let classes = ClassDefinition { table, start };
-        if let Err(fault) = classes.check() {
-            return print_fault(rt, name, fault);
-        }
-        print!(rt; "{name}: accepted")?;
-        return print_classes(rt, classes, glyphs);
+        let classes = ClassDefinition { structure };
+        return match classes.check() {
+            Err(fault) => print_fault(rt, name, fault),
+            Ok(()) => {
+                print!(rt; "{name}: accepted")?;
+                print_classes(rt, &classes, glyphs)
+            }
+        };
     }
-    match Coverage::check(table, start) {
+    let coverage = Coverage { structure };
+    match coverage.check() {
         Err(fault) => print_fault(rt, name, fault),
-        Ok(coverage) => {
-            let count = glyph_count(table, start);
+        Ok(()) => {
+            let count = coverage.glyph_count();
             print!(rt; "{name}: accepted, {count} glyphs")?;
-            print_indices(rt, coverage, glyphs)
+            print_indices(rt, &coverage, glyphs)
         }
     }
 }

@@ -3,6 +3,7 @@
 #![tactic(auto)]
 
 use layout::coverage::Coverage;
+use layout::structure::Structure;
 use std::alloc::{AllocError, Global};
 use std::io;
 use std::io::{BufRead, BufReader};
@@ -31,12 +32,17 @@ fn case(rt: &HostRuntime, line: &str) -> io::Result<()> {
     let length = number(parts.next().unwrap_or(""));
     let start = number(parts.next().unwrap_or(""));
     let bytes = bytes_of(rt.alloc(), words, length)?;
-    match Coverage::check(bytes.as_slice(), start) {
+    let structure = Structure {
+        table: bytes.as_slice(),
+        start,
+    };
+    let coverage = Coverage { structure };
+    match coverage.check() {
         Err(fault) => {
-            let (number, start, at) = fault.told();
-            println!(rt; "{name}: fault {number} structure {start} byte {at}")
+            let fault = fault.told();
+            println!(rt; "{name}: {fault}")
         }
-        Ok(coverage) => {
+        Ok(()) => {
             print!(rt; "{name}: accepted")?;
             for word in parts.next().unwrap_or("").split_whitespace() {
                 let glyph = word.parse::<u16>().unwrap_or(0);

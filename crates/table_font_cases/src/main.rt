@@ -4,7 +4,6 @@
 #![tactic(auto)]
 
 use font::source::{FontSource, MeasuredSource};
-use layout::fault::{TableFault, TableName};
 use std::alloc::{AllocError, Global};
 use std::io;
 use std::io::{BufRead, BufReader};
@@ -30,28 +29,6 @@ fn bytes_of(heap: Global, words: &str, length: Option<&str>) -> Result<Vec<u8>, 
         bytes.push(0)?;
     }
     Ok(bytes)
-}
-
-fn tag(table: TableName) -> &'static str {
-    match table {
-        TableName::Cmap => "cmap",
-        TableName::Gdef => "GDEF",
-        TableName::Hmtx => "hmtx",
-        TableName::Gsub => "GSUB",
-    }
-}
-
-fn print_fault(rt: &HostRuntime, fault: TableFault) -> io::Result<()> {
-    let report = fault.told();
-    let number = report.number;
-    let table = tag(report.place.table);
-    let lookup = report.place.lookup;
-    let subtable = report.place.subtable;
-    let start = report.start;
-    let byte = report.byte;
-    println!(rt;
-        "fault {number} table {table} lookup {lookup} subtable {subtable} structure {start} byte {byte}"
-    )
 }
 
 fn print_set(rt: &HostRuntime, font: &TableFont<'_>, set_and_glyph: &str) -> io::Result<()> {
@@ -87,11 +64,13 @@ fn case(rt: &HostRuntime, line: &str) -> io::Result<()> {
     let cmap = bytes_of(rt.alloc(), cmap, lengths.next())?;
     let gdef = bytes_of(rt.alloc(), gdef, lengths.next())?;
     let hmtx = bytes_of(rt.alloc(), hmtx, lengths.next())?;
-    let mut font = TableFont::new();
     print!(rt; "{name}: ")?;
-    match font.read(cmap.as_slice(), gdef.as_slice(), hmtx.as_slice(), metrics) {
-        Err(fault) => print_fault(rt, fault),
-        Ok(()) => {
+    match TableFont::checked(cmap.as_slice(), gdef.as_slice(), hmtx.as_slice(), metrics) {
+        Err(fault) => {
+            let report = fault.told();
+            println!(rt; "{report}")
+        }
+        Ok(font) => {
             print!(rt; "accepted")?;
             for question in parts.next().unwrap_or("").split_whitespace() {
                 print_answer(rt, &font, question)?;
