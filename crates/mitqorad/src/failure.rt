@@ -1,6 +1,6 @@
 use font::refusal::{LabelField, Refusal};
 use gsub::check::CheckError;
-use layout::fault::{Report, TableFault, TableName};
+use layout::fault::{Rule, StructureFault, TableFault};
 use std::alloc::{AllocError, AllocFailed, Global};
 use std::{fmt, io};
 
@@ -72,41 +72,28 @@ fn field_meaning(field: LabelField) -> &'static str {
     }
 }
 
-fn table_name(table: TableName) -> &'static str {
-    match table {
-        TableName::Cmap => "cmap",
-        TableName::Gdef => "GDEF",
-        TableName::Hmtx => "hmtx",
-        TableName::Gsub => "GSUB",
+// What a structure's rule asks, where it is broken.
+fn rule_meaning(rule: Rule) -> &'static str {
+    match rule {
+        Rule::Unknown => "unknown version, format or type, or an offset of 0 where a structure must be",
+        Rule::Order => "entries do not rise, a range ends before it begins, or a wrong start index",
+        Rule::Bounds => "a count, length or glyph number beyond its bounds",
+        Rule::Missing => "no such lookup",
     }
 }
 
-// What the number of a table's fault means.
-fn fault_meaning(number: u8) -> &'static str {
-    match number {
-        1 => "the structure ends past its table",
-        2 => "unknown version, format or type, or an offset of 0 where a structure must be",
-        3 => "entries do not rise, a range ends before it begins, or a wrong start index",
-        4 => "a count, length or glyph number beyond its bounds",
-        _ => "no such lookup",
+fn fault_meaning(fault: &TableFault) -> &'static str {
+    match fault {
+        TableFault::TooLong(_) => rule_meaning(Rule::Bounds),
+        TableFault::Structure(placed) => match placed.fault {
+            StructureFault::PastEnd(_) => "the structure ends past its table",
+            StructureFault::Broken {
+                rule,
+                start: _,
+                at: _,
+            } => rule_meaning(rule),
+        },
     }
-}
-
-fn show_fault<W: fmt::Write>(report: Report, f: &mut fmt::Formatter<W>) -> fmt::Result {
-    let Report {
-        number,
-        place,
-        start,
-        byte,
-    } = report;
-    let table = table_name(place.table);
-    let (lookup, subtable) = (place.lookup, place.subtable);
-    write!(
-        f,
-        "fault {number} table {table} lookup {lookup} subtable {subtable}"
-    )?;
-    let meaning = fault_meaning(number);
-    write!(f, " structure {start} byte {byte}: {meaning}")
 }
 
 impl fmt::Display for Failure {
@@ -125,7 +112,11 @@ impl fmt::Display for Failure {
                 f,
                 "refused 13: more than 32 stand-in pairs"
             ),
-            Failure::Fault(fault) => show_fault(fault.told(), f),
+            Failure::Fault(fault) => {
+                let report = fault.told();
+                let meaning = fault_meaning(fault);
+                write!(f, "{report}: {meaning}")
+            }
             Failure::Sentence(sentence) => {
                 let sentence = sentence.as_str();
                 write!(f, "mitqorad: {sentence}")

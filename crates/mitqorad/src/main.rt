@@ -17,7 +17,7 @@ use font::stand_in::StandIn;
 use gsub::table::Gsub;
 use std::env;
 use std::process::ExitCode;
-use table_font::source::check_gdef_table;
+use table_font::table::Gdef;
 
 const HELP: &str = "mitqorad: lines of shaped text whose breaks are proved safe
 
@@ -98,25 +98,15 @@ fn glyphs_command(rt: &HostRuntime, asked: GlyphsOptions) -> Result<(), Failure>
     }
 }
 
-// How many subtables all lookups have.
-fn subtable_count(gsub: &Gsub<'_>) -> u64 {
-    let mut sum = 0u64;
-    for lookup in 0..gsub.lookup_count() {
-        sum = sum.saturating_add(gsub.subtable_count(lookup) as u64);
-    }
-    sum
-}
-
 fn check_command(rt: &HostRuntime, asked: CheckOptions) -> Result<(), Failure> {
     let table = input::bytes_of(rt, asked.gsub)?;
-    let mut gsub = Gsub::new();
-    gsub.read(rt.alloc(), table.as_slice())?;
+    let gsub = Gsub::checked(rt.alloc(), table.as_slice())?;
     if let Some(path) = asked.gdef {
         let gdef = input::bytes_of(rt, path)?;
-        check_gdef_table(gdef.as_slice())?;
+        Gdef::read(gdef.as_slice())?;
     }
     let lookups = gsub.lookup_count();
-    let subtables = subtable_count(&gsub);
+    let subtables = gsub.subtables();
     println!(rt; "accepted")?;
     println!(rt; "lookups: {lookups}")?;
     println!(rt; "subtables: {subtables}")?;
