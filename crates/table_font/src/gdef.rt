@@ -51,65 +51,92 @@ fn check_classes(table: &[u8], at: usize) -> Result<(), StructureFault>
     }
 }
 
-// The mark sets, which are there from minor version 2 on.
-fn mark_sets(table: &[u8]) -> Option<Structure<'_>>
-    ensures some { IfSome result (λ sets. (sets.table.now ≡ table.now) × (sets.start ≡ mark_sets_offset table.now) × (mark_sets_offset table.now ≢ 0) × (sets.start ≤ 65535)) }
-    ensures none { IfNone result (mark_sets_offset table.now ≡ 0) }
-{
-    if u16::read(table, 2) < 2 {
-        return None;
-    }
-    let start = usize::from(u16::read(table, 12));
-    if start == 0 {
-        return None;
-    }
-    Some(Structure { table, start })
+// The structure that mark sets are.
+#[derive(Clone, Copy)]
+struct MarkSets<'a> {
+    structure: Structure<'a>,
+    // Its offset has 16 bits, so that a sum with one of 32 bits fits.
+    ghost near: { structure.start ≤ 65535 },
 }
 
-// One of mark sets: the coverage that the offset at a byte leads to.
-fn check_set(sets: &Structure<'_>, at: usize) -> Result<(), StructureFault>
-    requires { sets.now.start ≤ 65535 }
-    ensures { verdict result ≡ first_in (set_faults_at sets.now.table.now sets.now.start at) }
-{
-    let offset = u32::read(sets.table, at);
-    sets.require(offset != 0, Rule::Unknown, at)?;
-    let coverage = Coverage {
-        structure: Structure {
-            table: sets.table,
-            start: sets.start + offset as usize,
-        },
-    };
-    coverage.check()
-}
-
-// The coverages of mark sets.
-fn check_coverages(sets: &Structure<'_>, count: u16) -> Result<(), StructureFault>
-    requires { sets.now.start ≤ 65535 }
-    ensures { verdict result ≡ first_in (in_turn (λ k i. set_faults_at sets.now.table.now sets.now.start i) 4 0 (sets.now.start + 4) count) }
-{
-    for k in 0..count {
-        check_set(sets, sets.start + 4 + 4 * usize::from(k))?;
+impl<'a> MarkSets<'a> {
+    // Those of a table, which are there from minor version 2 on.
+    fn of(table: &'a [u8]) -> Option<MarkSets<'a>>
+        ensures some { IfSome result (λ sets. (sets.structure.table.now ≡ table.now) × (sets.structure.start ≡ mark_sets_offset table.now) × (mark_sets_offset table.now ≢ 0)) }
+        ensures none { IfNone result (mark_sets_offset table.now ≡ 0) }
+    {
+        if u16::read(table, 2) < 2 {
+            return None;
+        }
+        let start = usize::from(u16::read(table, 12));
+        if start == 0 {
+            return None;
+        }
+        let structure = Structure { table, start };
+        Some(MarkSets { structure })
     }
-    Ok(())
+
+    fn check(&self) -> Result<(), StructureFault>
+        ensures { verdict result ≡ first_in (mark_sets_faults self.now.structure.table.now self.now.structure.start) }
+    {
+        let structure = self.structure;
+        structure.format(1)?;
+        let count = structure.field::<u16>(structure.start + 2)?;
+        structure.check_fields(structure.start + 4, Width::Four, u64::from(count))?;
+        self.check_coverages(count)
+    }
+
+    // Their coverages, in order.
+    fn check_coverages(&self, count: u16) -> Result<(), StructureFault>
+        ensures { verdict result ≡ first_in (in_turn (λ k i. set_faults_at self.now.structure.table.now self.now.structure.start i) 4 0 (self.now.structure.start + 4) count) }
+    {
+        for k in 0..count {
+            self.check_set(self.structure.start + 4 + 4 * usize::from(k))?;
+        }
+        Ok(())
+    }
+
+    // The coverage that the offset at a byte leads to.
+    fn check_set(&self, at: usize) -> Result<(), StructureFault>
+        ensures { verdict result ≡ first_in (set_faults_at self.now.structure.table.now self.now.structure.start at) }
+    {
+        let offset = u32::read(self.structure.table, at);
+        self.structure.require(offset != 0, Rule::Unknown, at)?;
+        self.coverage(offset).check()
+    }
+
+    fn coverage(&self, offset: u32) -> Coverage<'a>
+        ensures { (result.structure.table.now ≡ self.now.structure.table.now) × (result.structure.start ≡ self.now.structure.start + offset) }
+    {
+        Coverage {
+            structure: Structure {
+                table: self.structure.table,
+                start: self.structure.start + offset as usize,
+            },
+        }
+    }
+
+    // Whether set k holds a glyph.
+    fn holds(&self, k: u16, glyph: u16) -> bool
+        requires { first_in (mark_sets_faults self.now.structure.table.now self.now.structure.start) ≡ None }
+        ensures { result ≡ set_holds self.now.structure.table.now self.now.structure.start k glyph }
+    {
+        let sets = self.structure;
+        if k >= sets.u16_in(2) {
+            return false;
+        }
+        let offset = u32::read(sets.table, sets.start + 4 + 4 * usize::from(k));
+        self.coverage(offset).index_of(glyph).is_some()
+    }
 }
 
 fn check_mark_sets(table: &[u8]) -> Result<(), StructureFault>
     ensures { verdict result ≡ first_in (if_there (mark_sets_offset table.now) 0 (mark_sets_faults table.now)) }
 {
-    match mark_sets(table) {
-        Some(sets) => check_sets(&sets),
+    match MarkSets::of(table) {
+        Some(sets) => sets.check(),
         None => Ok(()),
     }
-}
-
-fn check_sets(sets: &Structure<'_>) -> Result<(), StructureFault>
-    requires { sets.now.start ≤ 65535 }
-    ensures { verdict result ≡ first_in (mark_sets_faults sets.now.table.now sets.now.start) }
-{
-    sets.format(1)?;
-    let count = sets.field::<u16>(sets.start + 2)?;
-    sets.check_fields(sets.start + 4, Width::Four, u64::from(count))?;
-    check_coverages(sets, count)
 }
 
 // What the header's offsets lead to. Attachments and carets are not followed.
@@ -138,25 +165,6 @@ fn known_class(class: u16) -> u8
     ensures { result ≡ (if nat_le class 4 then class else 0) }
 {
     if class <= 4 { class as u8 } else { 0 }
-}
-
-// Whether set k of mark sets holds a glyph.
-fn set_holds(sets: &Structure<'_>, k: u16, glyph: u16) -> bool
-    requires start { sets.now.start ≤ 65535 }
-    requires accepted { first_in (mark_sets_faults sets.now.table.now sets.now.start) ≡ None }
-    ensures { result ≡ set_holds sets.now.table.now sets.now.start k glyph }
-{
-    if k >= sets.u16_in(2) {
-        return false;
-    }
-    let offset = u32::read(sets.table, sets.start + 4 + 4 * usize::from(k));
-    let coverage = Coverage {
-        structure: Structure {
-            table: sets.table,
-            start: sets.start + offset as usize,
-        },
-    };
-    coverage.index_of(glyph).is_some()
 }
 
 impl<'a> Gdef<'a> {
@@ -198,8 +206,8 @@ impl<'a> Gdef<'a> {
     pub fn in_mark_set(&self, set: u16, glyph: u16) -> bool
         ensures { result ≡ in_set self.now.table.now set glyph }
     {
-        match mark_sets(self.table) {
-            Some(sets) => set_holds(&sets, set, glyph),
+        match MarkSets::of(self.table) {
+            Some(sets) => sets.holds(set, glyph),
             None => false,
         }
     }

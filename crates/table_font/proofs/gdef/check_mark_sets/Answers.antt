@@ -7,4 +7,4 @@ pub returns-in-Some : goal.returns-in-Some
 returns-in-Some c =
     let t = c.args.table.now in
     let some = c.in-Some.ensures.some in
-    c.check_sets.ensures ∙ rw (some.0, some.1) (sym (behind (mark_sets_offset t) (mark_sets_faults t) some.2))
+    c.check.ensures ∙ rw (some.0, some.1) (sym (behind (mark_sets_offset t) (mark_sets_faults t) some.2))
