@@ -1,4 +1,3 @@
 mod Examples
 mod Placed
 mod Remembers
-mod Turns

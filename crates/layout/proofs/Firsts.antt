@@ -26,28 +26,6 @@ pub none-join : {X : Type 0} (xs ys : List X) → None ≡ first_in xs → None 
 none-join [] ys e f = f
 none-join (x ∷ xs) ys e f = let z : ◌≡◌ {A = ℕ} 0 1 = cc in absurd (omega arith)
 
--- elements in turn: element k, and those behind it
-module _ {X : Type 0} (each : ℕ → ℕ → List X) (w i n k : ℕ) (h : k < n) where
-  turn_at : in_turn each w k i (n - k) ≡ each k i ++ in_turn each w (k + 1) (i + w) (n - (k + 1))
-  turn_at = let e : n - k ≡ suc (n - (k + 1)) = omega arith in ap (in_turn each w k i) e
-
-  pub turn_on : None ≡ first_in (each k i) → first_in (in_turn each w k i (n - k)) ≡ first_in (in_turn each w (k + 1) (i + w) (n - (k + 1)))
-  turn_on none = ap first_in turn_at ∙ first-behind (each k i) _ (sym none)
-
-  pub turn-stops : (x : X) → Some x ≡ first_in (each k i) → first_in (in_turn each w k i (n - k)) ≡ Some x
-  turn-stops x e = ap first_in turn_at ∙ first-before (each k i) _ x (sym e)
-
--- the same, where element k stands w times k bytes behind the first
-module _ {X : Type 0} (each : ℕ → ℕ → List X) (w i n k : ℕ) (h : k < n) where
-  next : i + w * k + w ≡ i + w * (k + 1)
-  next = let m = mul-suc w k in omega arith
-
-  pub goes_on : None ≡ first_in (each k (i + w * k)) → first_in (in_turn each w k (i + w * k) (n - k)) ≡ first_in (in_turn each w (k + 1) (i + w * (k + 1)) (n - (k + 1)))
-  goes_on none = turn_on each w (i + w * k) n k h none ∙ ap (λ u. first_in (in_turn each w (k + 1) u (n - (k + 1)))) next
-
-  pub stops_here : (x : X) → Some x ≡ first_in (each k (i + w * k)) → first_in (in_turn each w k (i + w * k) (n - k)) ≡ Some x
-  stops_here = turn-stops each w (i + w * k) n k h
-
 -- faults with a place: there are some exactly where there are some without
 pub reports-none : (p : Place) (xs : List Fault) → first_in xs ≡ None → first_in (reports p xs) ≡ None
 reports-none p [] e = refl

@@ -3,3 +3,4 @@ pub mod Firsts
 pub mod Order
 pub mod Past
 pub mod Search
+pub mod Turns

@@ -2,7 +2,7 @@ use Rattle.std.proofs.Common.{◌∙◌, arith}
 use Rattle.std.proofs.lemmas.Result.{err_from_is_err_and}
 use Rattle.layout.specs.Told.{told}
 use Rattle.gsub.specs.Follow.{behind}
-use Rattle.gsub.proofs.Turns.{turn-on, turn-stops}
+use Rattle.layout.proofs.Turns.{turn-on, turn-stops}
 use Rattle.gsub.proofs.walk.Walk.check_each.Goals as goal
 
 pub returns-in_err-check_behind-clause-answer : goal.returns-in_err-check_behind-clause-answer

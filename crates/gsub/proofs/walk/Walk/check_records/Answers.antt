@@ -3,7 +3,7 @@ use Rattle.std.proofs.lemmas.Result.{err_from_is_err_and}
 use Rattle.layout.specs.Bytes.{u16_at}
 use Rattle.layout.specs.Faults.{unless}
 use Rattle.layout.specs.Told.{told}
-use Rattle.gsub.proofs.Turns.{turn-on, turn-stops}
+use Rattle.layout.proofs.Turns.{turn-on, turn-stops}
 use Rattle.gsub.proofs.walk.Walk.check_records.Goals as goal
 
 pub returns-in_err-require : goal.returns-in_err-require

@@ -2,7 +2,7 @@ use Rattle.std.proofs.Common.{◌+◌, ◌∙◌, arith}
 use Rattle.std.proofs.lemmas.Result.{err_from_is_err_and}
 use Rattle.layout.specs.Told.{placed_told}
 use Rattle.gsub.specs.Tables.{subtable_faults_at}
-use Rattle.gsub.proofs.Turns.{turn-on, turn-stops}
+use Rattle.layout.proofs.Turns.{turn-on, turn-stops}
 use Rattle.gsub.proofs.walk.Walk.check_subtables.Goals as goal
 
 pub check_subtable_at-requires : goal.check_subtable_at-requires
