@@ -20,7 +20,7 @@ pub(crate) enum Entries {
     Records,
 }
 
-// Where an array stands, and how many entries it lists.
+// Where an array stands, and how many entries it lists: a place and not a slice, since faults are told by their bytes.
 #[derive(Clone, Copy)]
 pub(crate) struct Array {
     pub(crate) at: usize,

@@ -61,6 +61,7 @@ impl ReverseArrays {
     }
 }
 
+// That a subtable's format was read is a clause of each: a type that says so holds a table, and then a clause would have to say that it is the walk's.
 impl Walk<'_> {
     // The coverage of the subtable at `start`.
     fn check_coverage(&mut self, start: usize) -> Result<(), StructureFault>

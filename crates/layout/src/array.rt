@@ -30,7 +30,7 @@ pub struct Range {
     pub value: u32,
 }
 
-// An array of ranges in a structure, from a byte on.
+// An array of ranges in a structure, from a byte on: a place and not a slice, since faults are told by their bytes.
 #[derive(Clone, Copy)]
 pub struct RangeArray<'a> {
     pub structure: Structure<'a>,

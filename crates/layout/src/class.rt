@@ -9,7 +9,7 @@ use crate::bytes::{Field, Width};
 use crate::fault::{ByteFault, StructureFault};
 use crate::structure::Structure;
 
-// The class definition that a structure is. Only one that was checked without a fault means something.
+// The class definition that a structure is. As with coverages, only one that was checked without a fault means something.
 #[derive(Clone, Copy)]
 pub struct ClassDefinition<'a> {
     pub structure: Structure<'a>,

@@ -8,7 +8,7 @@ use crate::array::{Kind, RangeArray, Third};
 use crate::fault::StructureFault;
 use crate::structure::Structure;
 
-// The coverage that a structure is. Only one that was checked without a fault means something.
+// The coverage that a structure is. Only one that was checked without a fault means something; no fact in the type says so, since then a caller could not ask one that he did not check himself.
 #[derive(Clone, Copy)]
 pub struct Coverage<'a> {
     pub structure: Structure<'a>,
