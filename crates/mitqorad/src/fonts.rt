@@ -15,7 +15,7 @@ pub fn read_label(rt: &HostRuntime, path: &str) -> Result<LabelFont, Failure> {
 #[derive(Drop)]
 pub struct TableBytes {
     cmap: Vec<u8>,
-    // Empty where there is no such table, as `TableFont::read` has it.
+    // Empty where there is no such table, as `TableFont::checked` has it.
     gdef: Vec<u8>,
     hmtx: Vec<u8>,
     metrics: u16,
@@ -35,13 +35,11 @@ impl TableBytes {
     }
 
     pub fn font(&self) -> Result<TableFont<'_>, Failure> {
-        let mut font = TableFont::new();
-        font.read(
+        Ok(TableFont::checked(
             self.cmap.as_slice(),
             self.gdef.as_slice(),
             self.hmtx.as_slice(),
             self.metrics,
-        )?;
-        Ok(font)
+        )?)
     }
 }
