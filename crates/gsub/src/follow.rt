@@ -106,11 +106,10 @@ impl Walk<'_> {
         ensures answer { verdict result ≡ first_in (behind null structure.entry.table.now structure.entry.start at (C.Target.faults child.now self.old)) }
         ensures same { self.new ≡ self.old }
     {
-        let offset = u16::read(structure.table, at);
-        if offset == 0 {
-            return structure.require(null, Rule::Unknown, at);
+        match structure.behind(at) {
+            Some(target) => child.check(self, target.start),
+            None => structure.require(null, Rule::Unknown, at),
         }
-        child.check(self, structure.start + usize::from(offset))
     }
 
     // What the offsets of an array lead to, in order.

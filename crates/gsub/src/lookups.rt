@@ -103,12 +103,13 @@ impl Walk<'_> {
     {
         let lookup = self.structure(start);
         let at = start + 6 + 2 * usize::from(j);
-        let offset = u16::read(lookup.table, at);
-        if offset == 0 {
-            return in_lookup(k, None).hold(lookup.require(false, Rule::Unknown, at));
+        match lookup.behind(at) {
+            Some(subtable) => {
+                let answer = self.check_lookup_subtable(start, subtable.start);
+                in_lookup(k, Some(j)).hold(answer)
+            }
+            None => in_lookup(k, None).hold(lookup.require(false, Rule::Unknown, at)),
         }
-        let answer = self.check_lookup_subtable(start, start + usize::from(offset));
-        in_lookup(k, Some(j)).hold(answer)
     }
 
     // The subtables of lookup k, in order.
@@ -146,12 +147,10 @@ impl Walk<'_> {
     {
         let lookups = self.structure(list);
         let at = list + 2 + 2 * usize::from(k);
-        let offset = u16::read(lookups.table, at);
-        if offset == 0 {
-            let answer = lookups.require(false, Rule::Unknown, at);
-            return Place::of(TableName::Gsub).hold(answer);
+        match lookups.behind(at) {
+            Some(lookup) => self.check_lookup(k, lookup.start),
+            None => Place::of(TableName::Gsub).hold(lookups.require(false, Rule::Unknown, at)),
         }
-        self.check_lookup(k, list + usize::from(offset))
     }
 
     // All lookups, in order.

@@ -1,4 +1,4 @@
-ghost use Rattle.std.specs.Prelude.{◌≡◌, true, ◌+◌, ◌*◌, ◌^◌, ◌<◌, ◌≤◌, length, IfOk, OnOk};
+ghost use Rattle.std.specs.Prelude.{◌≡◌, true, ◌+◌, ◌*◌, ◌^◌, ◌<◌, ◌≤◌, length, IfOk, IfSome, IfNone, OnOk, ◌≢◌};
 ghost use Rattle.layout.specs.Bytes.{u16_at, bytes_of};
 ghost use Rattle.layout.specs.Faults.{first_in, extent, unless, format_faults};
 ghost use Rattle.layout.specs.Told.{verdict, byte_verdict, number_of};
@@ -71,5 +71,20 @@ impl<'a> Structure<'a> {
         ensures { result ≡ u16_at self.now.table.now (self.now.start + offset) }
     {
         u16::read(self.table, self.start.saturating_add(offset))
+    }
+
+    // The structure that the 16-bit offset at a byte leads to, counted from the start of this one; none where the offset is 0.
+    pub fn behind(&self, at: usize) -> Option<Structure<'a>>
+        ensures some { IfSome result (λ target. (target.table.now ≡ self.now.table.now) × (self.now.start ≤ length self.now.table.now → target.start ≡ self.now.start + u16_at self.now.table.now at) × (u16_at self.now.table.now at ≢ 0)) }
+        ensures none { IfNone result (u16_at self.now.table.now at ≡ 0) }
+    {
+        let link = usize::from(u16::read(self.table, at));
+        if link == 0 {
+            return None;
+        }
+        Some(Structure {
+            table: self.table,
+            start: self.start.saturating_add(link),
+        })
     }
 }

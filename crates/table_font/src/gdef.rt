@@ -33,13 +33,9 @@ fn classes_behind(table: &[u8], at: usize) -> Option<ClassDefinition<'_>>
     ensures some { IfSome result (λ classes. (classes.structure.table.now ≡ table.now) × (classes.structure.start ≡ u16_at table.now at) × (u16_at table.now at ≢ 0)) }
     ensures none { IfNone result (u16_at table.now at ≡ 0) }
 {
-    let start = usize::from(u16::read(table, at));
-    if start == 0 {
-        return None;
-    }
-    Some(ClassDefinition {
-        structure: Structure { table, start },
-    })
+    let header = Structure { table, start: 0 };
+    let structure = header.behind(at)?;
+    Some(ClassDefinition { structure })
 }
 
 fn check_classes(table: &[u8], at: usize) -> Result<(), StructureFault>
@@ -68,11 +64,8 @@ impl<'a> MarkSets<'a> {
         if u16::read(table, 2) < 2 {
             return None;
         }
-        let start = usize::from(u16::read(table, 12));
-        if start == 0 {
-            return None;
-        }
-        let structure = Structure { table, start };
+        let header = Structure { table, start: 0 };
+        let structure = header.behind(12)?;
         Some(MarkSets { structure })
     }
 
