@@ -1,5 +1,6 @@
 // Runs a table of cases from standard input, a line each: KIND | NAME | WORDS | LENGTH | START | GLYPHS.
 // The table is the words, 16 bits each, cut to a length in bytes; a coverage or a class definition is checked at the start, and glyphs are asked for; of a coverage the glyphs are counted.
+// What it shares with the other programs of cases stays in each: as a crate it would be public functions about how a test is written.
 #![tactic(auto)]
 
 use layout::class::ClassDefinition;
@@ -61,10 +62,7 @@ fn case(rt: &HostRuntime, line: &str) -> io::Result<()> {
     let start = number(parts.next().unwrap_or(""));
     let glyphs = parts.next().unwrap_or("");
     let bytes = bytes_of(rt.alloc(), words, length)?;
-    let structure = Structure {
-        table: bytes.as_slice(),
-        start,
-    };
+    let structure = Structure::new(bytes.as_slice(), start);
     if kind == "classes" {
         let classes = ClassDefinition { structure };
         return match classes.check() {

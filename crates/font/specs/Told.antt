@@ -1,5 +1,5 @@
 -- What a refusal tells: its number and the values that come with it.
-use Rattle.std.specs.Prelude.{ℕ, List, [], ◌∷◌, Ok, Err, Result}
+use Rattle.std.specs.Prelude.{ℕ, List, [], ◌∷◌, Ok, Err, Result, ◌++◌, codes, decimal}
 use Rattle.font.specs.declared.refusal.LabelField.{LabelField}
 use Rattle.font.specs.declared.refusal.LabelField.TheVariants.{Character, Glyph, Class, MarkClass, Advance}
 use Rattle.font.specs.declared.refusal.Refusal.{Refusal}
@@ -34,3 +34,9 @@ told_with y (Err e) = told (Err e)
 abbrev pub number_of : {X : Type 0} → Told X → ℕ
 number_of (gave x) = 0
 number_of (refused number values) = number
+
+-- How a refusal is printed: its number, and the line and the field of a label file's fault.
+abbrev pub refusal_text : Refusal → List ℕ
+refusal_text RunTooLong = codes "refused 6"
+refusal_text (Label line field) = codes "refused 12 line " ++ (decimal line ++ (codes " field " ++ decimal (field_number field)))
+refusal_text TooManyPairs = codes "refused 13"

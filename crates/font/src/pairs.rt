@@ -1,4 +1,4 @@
-ghost use Rattle.std.specs.Prelude.{◌≡◌, [], ◌∷◌, ◌++◌, length, if◌then◌else◌, nat_lt};
+ghost use Rattle.std.specs.Prelude.{◌≡◌, ◌≤◌, [], ◌∷◌, ◌++◌, length, if◌then◌else◌, nat_lt};
 ghost use Rattle.font.specs.Told.{gave, refused, told};
 ghost use Rattle.font.specs.StandIn.{pairs_of};
 
@@ -38,7 +38,8 @@ impl PairTable {
 
     // The pairs, in the order in which they were added.
     pub fn pairs(&self) -> &[Pair]
-        ensures { result.now ≡ pairs_of self.now }
+        ensures pairs { result.now ≡ pairs_of self.now }
+        ensures few { length result.now ≤ 32 }
     {
         self.pairs.items()
     }

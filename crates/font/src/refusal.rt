@@ -1,5 +1,7 @@
-ghost use Rattle.std.specs.Prelude.{◌≡◌, Err};
-ghost use Rattle.font.specs.Told.{told, number_of, field_number};
+ghost use Rattle.std.specs.Prelude.{◌≡◌, Err, Some};
+ghost use Rattle.font.specs.Told.{told, number_of, field_number, refusal_text};
+
+use std::fmt;
 
 // A field of a label file's row, numbered from left to right.
 #[derive(Clone, Copy, Debug, PartialEq)]
@@ -39,6 +41,21 @@ impl Refusal {
             Refusal::RunTooLong => 6,
             Refusal::Label { line: _, field: _ } => 12,
             Refusal::TooManyPairs => 13,
+        }
+    }
+}
+
+impl fmt::Display for Refusal {
+    ghost output = { λ refusal. Some (refusal_text refusal) };
+
+    fn fmt<W: fmt::Write>(&self, f: &mut fmt::Formatter<W>) -> fmt::Result {
+        match self {
+            Refusal::RunTooLong => f.write_str("refused 6"),
+            Refusal::Label { line, field } => {
+                let field = field.number();
+                write!(f, "refused 12 line {line} field {field}")
+            }
+            Refusal::TooManyPairs => f.write_str("refused 13"),
         }
     }
 }

@@ -97,17 +97,6 @@ fn asked<S: MeasuredSource>(rt: &HostRuntime, source: &S, characters: &str) -> i
     println!(rt; "")
 }
 
-fn refused(rt: &HostRuntime, refusal: Refusal) -> io::Result<()> {
-    let number = refusal.number();
-    match refusal {
-        Refusal::Label { line, field } => {
-            let field = field.number();
-            println!(rt; "refused {number} line {line} field {field}")
-        }
-        Refusal::RunTooLong | Refusal::TooManyPairs => println!(rt; "refused {number}"),
-    }
-}
-
 fn case(rt: &HostRuntime, line: &str) -> io::Result<()> {
     let mut parts = line.split('|');
     let name = parts.next().unwrap_or("").trim();
@@ -115,7 +104,7 @@ fn case(rt: &HostRuntime, line: &str) -> io::Result<()> {
     let source = source_of(file.as_slice(), parts.next().unwrap_or(""));
     print!(rt; "{name}: ")?;
     match source {
-        Err(refusal) => refused(rt, refusal),
+        Err(refusal) => println!(rt; "{refusal}"),
         Ok(source) => {
             let count = source.below.rows().len();
             print!(rt; "{count} rows")?;

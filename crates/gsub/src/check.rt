@@ -15,7 +15,7 @@ use std::alloc::{AllocError, Global};
 #[derive(Clone, Copy)]
 pub enum CheckError {
     Fault(TableFault),
-    // No memory to remember the walk in; nothing is known of the table.
+    // No memory to remember the walk in; nothing is known of the lookups.
     Memory,
 }
 

@@ -94,7 +94,7 @@ impl Walk<'_> {
         Ok(())
     }
 
-    // What the offset at a byte of a structure leads to.
+    // What the offset at a byte of a structure leads to. `null` says whether it may be 0: yes or no, with nothing beside, so that an enum would be no plainer.
     pub(crate) fn check_behind<C: Target>(
         &mut self,
         child: &C,

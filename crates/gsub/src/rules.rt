@@ -104,7 +104,7 @@ impl Walk<'_> {
     }
 }
 
-// The rules of a set: of type 6 if they chain, else of type 5.
+// The rules of a set: of type 6 if they chain, else of type 5. As two types they would have the same lines but for this field.
 #[derive(Clone, Copy, Drop)]
 pub(crate) struct Rules {
     pub(crate) chain: bool,

@@ -22,7 +22,7 @@ pub(crate) enum Kind {
 }
 
 impl Kind {
-    // The kind of the subtables of a type.
+    // The kind of the subtables of a type, which is a number of the format: the forms go by type and format together, in `Subtable::of`.
     pub(crate) fn of_subtable(lookup_type: u16) -> Option<Kind>
         ensures movable { is_some result ≡ movable lookup_type }
         ensures faults { (t : List ℕ) (n s : ℕ) → IfSome result (λ kind. faults_of kind t n s ≡ subtable_faults t n s lookup_type) }

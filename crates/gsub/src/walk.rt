@@ -7,7 +7,7 @@ use layout::structure::Structure;
 use std::alloc::{AllocError, Global};
 use std::marker::Model;
 
-// A walk over a table with so many lookups. It remembers what it found without faults, which changes no answer: contracts see the table and the lookups alone.
+// A walk over a table with so many lookups. It remembers what it found without faults, which changes no answer: contracts see the table and the lookups alone. What takes it by `&mut` says that they stay (`same`); a type cannot say that of a call.
 #[derive(Drop)]
 pub(crate) struct Walk<'a> {
     table: &'a [u8],

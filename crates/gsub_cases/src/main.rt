@@ -1,6 +1,7 @@
 // Runs a table of cases from standard input, a line each: NAME | WORDS | LENGTH.
 // The table is the words, 16 bits each, where N*V stands for N words V, cut to a length in bytes; a length that is no number cuts nothing.
 // It is checked as a GSUB table, and the lookups and subtables of an accepted table are counted.
+// What it shares with the other programs of cases stays in each: as a crate it would be public functions about how a test is written.
 #![tactic(auto)]
 
 use gsub::check::CheckError;
@@ -35,8 +36,9 @@ fn case(rt: &HostRuntime, line: &str) -> io::Result<()> {
     let words = parts.next().unwrap_or("");
     let length = parts.next().unwrap_or("").trim().parse::<usize>();
     let bytes = bytes_of(rt.alloc(), words, length.unwrap_or(usize::MAX))?;
-    match Gsub::checked(rt.alloc(), bytes.as_slice()) {
-        Ok(gsub) => {
+    let mut gsub = Gsub::new();
+    match gsub.read(rt.alloc(), bytes.as_slice()) {
+        Ok(()) => {
             let (lookups, subtables) = (gsub.lookup_count(), gsub.subtables());
             println!(rt; "{name}: accepted, {lookups} lookups, {subtables} subtables")
         }

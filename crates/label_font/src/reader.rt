@@ -86,6 +86,7 @@ impl Reader {
         ensures answer { result ≡ step_answer self.old byte }
         ensures reader { self.new ≡ stepped self.old byte }
     {
+        // A field is cast to the type that has its bounds; a conversion that can fail would add a case.
         match (self.next, byte) {
             (_, b'0'..=b'9') => self.digit(byte - b'0')?,
             (LabelField::Character, b'\t') => {

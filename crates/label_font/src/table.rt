@@ -1,4 +1,4 @@
-ghost use Rattle.std.specs.Prelude.{◌≡◌, []};
+ghost use Rattle.std.specs.Prelude.{◌≡◌, ◌≤◌, [], length};
 ghost use Rattle.label_font.specs.LabelFont.{rows_of};
 
 use font::table::{Blank, Table};
@@ -42,7 +42,8 @@ impl LabelFont {
 
     // The rows of the file, in order.
     pub fn rows(&self) -> &[LabelRow]
-        ensures { result.now ≡ rows_of self.now }
+        ensures rows { result.now ≡ rows_of self.now }
+        ensures few { length result.now ≤ 256 }
     {
         self.rows.items()
     }

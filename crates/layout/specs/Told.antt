@@ -1,5 +1,5 @@
 -- What a fault tells: its number, where its structure starts, and the byte of the first bad field.
-use Rattle.std.specs.Prelude.{ℕ, Some, None, Ok, Err, Option, Result}
+use Rattle.std.specs.Prelude.{ℕ, List, ◌++◌, Some, None, Ok, Err, Option, Result, codes, decimal}
 use Rattle.layout.specs.declared.fault.ByteFault.{ByteFault}
 use Rattle.layout.specs.declared.fault.Place.{Place}
 use Rattle.layout.specs.declared.fault.PlacedFault.{PlacedFault}
@@ -8,6 +8,8 @@ use Rattle.layout.specs.declared.fault.Rule.{Rule}
 use Rattle.layout.specs.declared.fault.Rule.TheVariants.{Unknown, Order, Bounds, Missing}
 use Rattle.layout.specs.declared.fault.StructureFault.{StructureFault}
 use Rattle.layout.specs.declared.fault.StructureFault.TheVariants.{PastEnd, Broken}
+use Rattle.layout.specs.declared.fault.TableName.{TableName}
+use Rattle.layout.specs.declared.fault.TableName.TheVariants.{Cmap, Gdef, Hmtx, Gsub}
 use Rattle.layout.specs.declared.fault.TableFault.{TableFault}
 use Rattle.layout.specs.declared.fault.TableFault.TheVariants.{TooLong, Structure}
 use Rattle.layout.specs.declared.fault.Fault.{Fault}
@@ -57,3 +59,18 @@ table_verdict (Err e) = Some (table_told e)
 abbrev pub placing : {X : Type 0} → Place → Result X StructureFault → Result X PlacedFault
 placing p (Ok x) = Ok x
 placing p (Err e) = Err (record { place = p; fault = e })
+
+-- How a table's name, a fault and a report are printed.
+abbrev pub name_text : TableName → List ℕ
+name_text Cmap = codes "cmap"
+name_text Gdef = codes "GDEF"
+name_text Hmtx = codes "hmtx"
+name_text Gsub = codes "GSUB"
+
+abbrev pub fault_text : Fault → List ℕ
+fault_text f = codes "fault " ++ (decimal f.number ++ (codes " structure " ++ (decimal f.start ++ (codes " byte " ++ decimal f.byte))))
+
+abbrev pub report_text : Report → List ℕ
+report_text r =
+    codes "fault " ++ (decimal r.number ++ (codes " table " ++ (name_text r.table ++ (codes " lookup " ++ (decimal r.lookup ++ (codes " subtable "
+    ++ (decimal r.subtable ++ (codes " structure " ++ (decimal r.start ++ (codes " byte " ++ decimal r.byte))))))))))

@@ -45,6 +45,7 @@ impl ClassDefinition<'_> {
             return self.listed_class(glyph);
         }
         match self.range_of(glyph) {
+            // Below 65,536, as `range_of` says; a conversion that can fail would add a case.
             Some(range) => range.value as u16,
             None => 0,
         }

@@ -1,5 +1,5 @@
 ghost use Rattle.std.specs.Prelude.{◌≡◌, None};
-ghost use Rattle.layout.specs.Coverages.{kind_of, coverage_ranges, coverage_faults, coverage_index};
+ghost use Rattle.layout.specs.Coverages.{LiesIn, kind_of, coverage_ranges, coverage_faults, coverage_index};
 ghost use Rattle.layout.specs.Faults.{first_in};
 ghost use Rattle.layout.specs.Ranges.{Inside, Rises, ranges_of, size};
 ghost use Rattle.layout.specs.Told.{verdict};
@@ -34,8 +34,9 @@ impl<'a> Coverage<'a> {
         self.structure.check_ranges(kind, Third::StartIndex)
     }
 
-    // Its ranges, which rise.
+    // Its ranges, which lie in the table and rise where it has no fault.
     pub fn ranges(&self) -> RangeArray<'a>
+        ensures laid { LiesIn self.now.structure.table.now self.now.structure.start → (ranges_of result ≡ coverage_ranges self.now.structure.table.now self.now.structure.start) × Inside result }
         ensures ranges { first_in (coverage_faults self.now.structure.table.now self.now.structure.start) ≡ None → ranges_of result ≡ coverage_ranges self.now.structure.table.now self.now.structure.start }
         ensures inside { first_in (coverage_faults self.now.structure.table.now self.now.structure.start) ≡ None → Inside result }
         ensures rises { first_in (coverage_faults self.now.structure.table.now self.now.structure.start) ≡ None → Rises 0 (ranges_of result) }
@@ -56,9 +57,10 @@ impl<'a> Coverage<'a> {
         }
     }
 
-    // The index of a glyph, if it is covered.
+    // The index of a glyph, if it is covered. The ranges need but lie in the table and rise.
     pub fn index_of(&self, glyph: u16) -> Option<usize>
-        ensures { first_in (coverage_faults self.now.structure.table.now self.now.structure.start) ≡ None → result ≡ coverage_index self.now.structure.table.now self.now.structure.start glyph }
+        ensures accepted { first_in (coverage_faults self.now.structure.table.now self.now.structure.start) ≡ None → result ≡ coverage_index self.now.structure.table.now self.now.structure.start glyph }
+        ensures laid { LiesIn self.now.structure.table.now self.now.structure.start → Rises 0 (coverage_ranges self.now.structure.table.now self.now.structure.start) → result ≡ coverage_index self.now.structure.table.now self.now.structure.start glyph }
     {
         let glyph = u32::from(glyph);
         let range = self.ranges().find(glyph)?;

@@ -1,6 +1,6 @@
-ghost use Rattle.std.specs.Prelude.{◌≡◌, List};
+ghost use Rattle.std.specs.Prelude.{◌≡◌, List, Some};
 ghost use Rattle.layout.specs.Faults.{first_in, number_or_none, own_place, report_at, reports, too_long};
-ghost use Rattle.layout.specs.Told.{wrapped, told, verdict, placed_verdict, table_verdict, table_told, placed_table, placing};
+ghost use Rattle.layout.specs.Told.{name_text, fault_text, report_text, wrapped, told, verdict, placed_verdict, table_verdict, table_told, placed_table, placing};
 
 use std::fmt;
 
@@ -70,7 +70,7 @@ pub struct Fault {
     pub byte: usize,
 }
 
-// All that a table's fault tells: the same, and where it is, with 65,535 for no lookup and no subtable.
+// All that a table's fault tells: the same, and where it is. As the project tells faults, 65,535 stands for no lookup and no subtable.
 #[derive(Clone, Copy, Debug, PartialEq)]
 pub struct Report {
     pub number: u8,
@@ -166,7 +166,7 @@ impl TableFault {
     {
         match self {
             TableFault::TooLong(table) => Place::of(*table).report(Fault {
-                number: 4,
+                number: Rule::Bounds as u8,
                 start: 0,
                 byte: 0,
             }),
@@ -176,6 +176,8 @@ impl TableFault {
 }
 
 impl fmt::Display for TableName {
+    ghost output = { λ x. Some (name_text x) };
+
     fn fmt<W: fmt::Write>(&self, f: &mut fmt::Formatter<W>) -> fmt::Result {
         f.write_str(match self {
             TableName::Cmap => "cmap",
@@ -187,6 +189,8 @@ impl fmt::Display for TableName {
 }
 
 impl fmt::Display for Fault {
+    ghost output = { λ x. Some (fault_text x) };
+
     fn fmt<W: fmt::Write>(&self, f: &mut fmt::Formatter<W>) -> fmt::Result {
         let Fault {
             number,
@@ -198,6 +202,8 @@ impl fmt::Display for Fault {
 }
 
 impl fmt::Display for Report {
+    ghost output = { λ x. Some (report_text x) };
+
     fn fmt<W: fmt::Write>(&self, f: &mut fmt::Formatter<W>) -> fmt::Result {
         let (number, table) = (self.number, self.table);
         let (lookup, subtable) = (self.lookup, self.subtable);

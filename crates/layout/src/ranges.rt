@@ -1,5 +1,5 @@
 ghost use Rattle.std.specs.Prelude.{◌≡◌, ◌+◌, ◌*◌, ◌<◌, ◌≤◌, length, IfOk, IfSome, OnOk, slice_index_or, None};
-ghost use Rattle.layout.specs.Bytes.{bytes_of};
+ghost use Rattle.layout.specs.Bytes.{bytes_of, u16_at};
 ghost use Rattle.layout.specs.Faults.{first_in, extent};
 ghost use Rattle.layout.specs.Ranges.{counted_faults, counted_ranges, Inside, Rises, holding, last_of, ranges_of, entry_faults, field_size, field_count, entry_size, range_at, value_bound, third_faults, order_faults, array_faults};
 ghost use Rattle.layout.specs.Told.{verdict, byte_verdict};
@@ -83,6 +83,7 @@ impl Kind {
 impl<'a> Structure<'a> {
     // The ranges behind its format and their count.
     pub(crate) fn ranges(&self, kind: Kind) -> RangeArray<'a>
+        ensures laid { self.now.start + 4 + entry_size kind * u16_at self.now.table.now (self.now.start + 2) ≤ length self.now.table.now → (ranges_of result ≡ counted_ranges kind self.now.table.now self.now.start) × Inside result }
         ensures ranges { (third : Third) → first_in (counted_faults third kind self.now.table.now self.now.start) ≡ None → (ranges_of result ≡ counted_ranges kind self.now.table.now self.now.start) × Inside result × Rises 0 (ranges_of result) }
         ensures kind { result.kind ≡ kind }
     {

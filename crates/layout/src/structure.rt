@@ -11,11 +11,18 @@ use crate::fault::{ByteFault, Rule, StructureFault};
 pub struct Structure<'a> {
     pub table: &'a [u8],
     pub start: usize,
-    // So has every slice, but a proof would not know it of one in a struct.
+    // True of every slice; a proof knows it of a parameter, but not of a slice in a struct.
     ghost fits: { length table.now < 2 ^ 63 },
 }
 
 impl<'a> Structure<'a> {
+    pub fn new(table: &'a [u8], start: usize) -> Structure<'a>
+        ensures table { result.table.now ≡ table.now }
+        ensures start { result.start ≡ start }
+    {
+        Structure { table, start }
+    }
+
     // So many fields lie in the table, the first of them at a byte; else the first that does not.
     pub fn check_fields(&self, at: usize, width: Width, count: u64) -> Result<(), ByteFault>
         ensures answer { byte_verdict result ≡ first_in (extent self.now.table.now self.now.start at (bytes_of width) count) }

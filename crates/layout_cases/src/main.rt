@@ -1,5 +1,6 @@
 // Runs a table of cases from standard input, a line each: NAME | WORDS | LENGTH | START | GLYPHS.
 // The table is the words, 16 bits each, cut to a length in bytes; a coverage is checked at the start, and glyphs are asked for.
+// What it shares with the other programs of cases stays in each: as a crate it would be public functions about how a test is written.
 #![tactic(auto)]
 
 use layout::coverage::Coverage;
@@ -32,10 +33,7 @@ fn case(rt: &HostRuntime, line: &str) -> io::Result<()> {
     let length = number(parts.next().unwrap_or(""));
     let start = number(parts.next().unwrap_or(""));
     let bytes = bytes_of(rt.alloc(), words, length)?;
-    let structure = Structure {
-        table: bytes.as_slice(),
-        start,
-    };
+    let structure = Structure::new(bytes.as_slice(), start);
     let coverage = Coverage { structure };
     match coverage.check() {
         Err(fault) => {

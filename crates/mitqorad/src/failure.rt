@@ -61,6 +61,7 @@ pub fn sentence<T>(heap: Global, what: &str, word: &str) -> Result<T, Failure> {
     Err(Failure::Sentence(format!(in heap; "{what}{word} (mitqorad --help says more)")?))
 }
 
+// The program's own words for a refusal and a fault; what the library prints of them are numbers.
 // What a label file's field should have been.
 fn field_meaning(field: LabelField) -> &'static str {
     match field {
@@ -69,6 +70,14 @@ fn field_meaning(field: LabelField) -> &'static str {
         LabelField::Class => "not a class from 0 to 4 and a tab",
         LabelField::MarkClass => "not a mark class from 0 to 65535 and a tab",
         LabelField::Advance => "not an advance from 0 to 65535 and a line feed",
+    }
+}
+
+fn refusal_meaning(refusal: &Refusal) -> &'static str {
+    match refusal {
+        Refusal::RunTooLong => "more than 65535 characters",
+        Refusal::Label { line: _, field } => field_meaning(*field),
+        Refusal::TooManyPairs => "more than 32 stand-in pairs",
     }
 }
 
@@ -99,19 +108,10 @@ fn fault_meaning(fault: &TableFault) -> &'static str {
 impl fmt::Display for Failure {
     fn fmt<W: fmt::Write>(&self, f: &mut fmt::Formatter<W>) -> fmt::Result {
         match self {
-            Failure::Refused(Refusal::RunTooLong) => write!(
-                f,
-                "refused 6: more than 65535 characters"
-            ),
-            Failure::Refused(Refusal::Label { line, field }) => {
-                let meaning = field_meaning(*field);
-                let field = field.number();
-                write!(f, "refused 12 line {line} field {field}: {meaning}")
+            Failure::Refused(refusal) => {
+                let meaning = refusal_meaning(refusal);
+                write!(f, "{refusal}: {meaning}")
             }
-            Failure::Refused(Refusal::TooManyPairs) => write!(
-                f,
-                "refused 13: more than 32 stand-in pairs"
-            ),
             Failure::Fault(fault) => {
                 let report = fault.told();
                 let meaning = fault_meaning(fault);

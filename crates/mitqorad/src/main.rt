@@ -10,7 +10,7 @@ mod options;
 use crate::failure::{Failure, sentence};
 use crate::font_options::FontFiles;
 use crate::fonts::{TableBytes, read_label};
-use crate::options::{CheckOptions, GlyphsOptions};
+use crate::options::{CheckOptions, GlyphsOptions, Text};
 use font::pairs::PairTable;
 use font::source::{MeasuredSource, run_width};
 use font::stand_in::StandIn;
@@ -54,13 +54,15 @@ fn stand_ins(rt: &HostRuntime, path: Option<&str>) -> Result<PairTable, Failure>
     input::pairs_of(rt.alloc(), path, text)
 }
 
-fn text_characters(rt: &HostRuntime, path: &str, codes: bool) -> Result<Vec<u32>, Failure> {
+fn text_characters(rt: &HostRuntime, text: Text) -> Result<Vec<u32>, Failure> {
+    let path = match text {
+        Text::Utf8(path) | Text::Codes(path) => path,
+    };
     let bytes = input::bytes_of(rt, path)?;
-    let text = input::text_of(rt.alloc(), path, bytes.as_slice())?;
-    if codes {
-        input::numbered(rt.alloc(), path, text)
-    } else {
-        input::characters(rt.alloc(), text)
+    let content = input::text_of(rt.alloc(), path, bytes.as_slice())?;
+    match text {
+        Text::Utf8(_) => input::characters(rt.alloc(), content),
+        Text::Codes(_) => input::numbered(rt.alloc(), path, content),
     }
 }
 
@@ -84,7 +86,7 @@ fn glyphs_over<S: MeasuredSource + Drop>(
     asked: GlyphsOptions,
 ) -> Result<(), Failure> {
     let table = stand_ins(rt, asked.stand_in)?;
-    let text = text_characters(rt, asked.text, asked.codes)?;
+    let text = text_characters(rt, asked.text)?;
     print_glyphs(rt, &StandIn { below: font, table }, text.as_slice())
 }
 

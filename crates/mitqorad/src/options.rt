@@ -7,9 +7,14 @@ use std::alloc::Global;
 pub struct GlyphsOptions<'a> {
     pub font: FontFiles<'a>,
     pub stand_in: Option<&'a str>,
-    // The text is character numbers, not UTF-8.
-    pub codes: bool,
-    pub text: &'a str,
+    pub text: Text<'a>,
+}
+
+// A file of text: UTF-8, or character numbers, one a line.
+#[derive(Clone, Copy)]
+pub enum Text<'a> {
+    Utf8(&'a str),
+    Codes(&'a str),
 }
 
 // What `mitqorad check` is asked for.
@@ -71,8 +76,11 @@ pub fn glyphs_options<'a>(heap: Global, words: &'a [String]) -> Result<GlyphsOpt
     Ok(GlyphsOptions {
         font,
         stand_in,
-        codes,
-        text,
+        text: if codes {
+            Text::Codes(text)
+        } else {
+            Text::Utf8(text)
+        },
     })
 }
 

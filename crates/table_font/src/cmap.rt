@@ -58,6 +58,7 @@ impl<'a> Cmap<'a> {
         ensures { result ≡ glyph_of self.now.table.now character }
     {
         match self.group_of(character) {
+            // At most 65,535, as `group_of` says; a conversion that can fail would add a case.
             Some(group) => (group.value + (character - group.first)) as u16,
             None => 0,
         }

@@ -1,6 +1,7 @@
 // Runs a table of cases from standard input, a line each: NAME | CMAP | GDEF | HMTX | METRICS | LENGTHS | QUESTIONS.
 // A table is its words, 16 bits each. Three lengths in bytes, a word that is no number for a table's own length, cut the tables short or fill them up with zeros.
 // Where the tables are accepted, the questions are answered: glyph:CHARACTER, class:GLYPH, mark:GLYPH, advance:GLYPH, set:NUMBER:GLYPH.
+// What it shares with the other programs of cases stays in each: as a crate it would be public functions about how a test is written.
 #![tactic(auto)]
 
 use font::source::{FontSource, MeasuredSource};
@@ -43,6 +44,7 @@ fn print_set(rt: &HostRuntime, font: &TableFont<'_>, set_and_glyph: &str) -> io:
 fn print_answer(rt: &HostRuntime, font: &TableFont<'_>, question: &str) -> io::Result<()> {
     print!(rt; ", {question}")?;
     let (kind, of) = question.split_once(':').unwrap_or(("", ""));
+    // A question is a word, so what it asks is found by its text.
     let answer = match kind {
         "glyph" => font.glyph(of.parse::<u32>().unwrap_or(0)),
         "class" => font.class(number(of)) as u16,
@@ -64,13 +66,14 @@ fn case(rt: &HostRuntime, line: &str) -> io::Result<()> {
     let cmap = bytes_of(rt.alloc(), cmap, lengths.next())?;
     let gdef = bytes_of(rt.alloc(), gdef, lengths.next())?;
     let hmtx = bytes_of(rt.alloc(), hmtx, lengths.next())?;
+    let mut font = TableFont::new();
     print!(rt; "{name}: ")?;
-    match TableFont::checked(cmap.as_slice(), gdef.as_slice(), hmtx.as_slice(), metrics) {
+    match font.read(cmap.as_slice(), gdef.as_slice(), hmtx.as_slice(), metrics) {
         Err(fault) => {
             let report = fault.told();
             println!(rt; "{report}")
         }
-        Ok(font) => {
+        Ok(()) => {
             print!(rt; "accepted")?;
             for question in parts.next().unwrap_or("").split_whitespace() {
                 print_answer(rt, &font, question)?;

@@ -16,5 +16,5 @@ returns c =
     let l : ltb k (u16_at t (s + 2)) ≡ true = grind (arith, nat_tests) in
     let is = c.coverage.ensures in
     let none : first_in (coverage_faults c.coverage.result.structure.table.now c.coverage.result.structure.start) ≡ None = rw (is.0, is.1, e) (set-none t s k c.requires below) in
-    let found : c.index_of.result ≡ coverage_index t (s + u32_at t (s + 4 + 4 * k)) c.args.glyph = c.index_of.ensures none ∙ rw (is.0, is.1, e) refl in
+    let found : c.index_of.result ≡ coverage_index t (s + u32_at t (s + 4 + 4 * k)) c.args.glyph = c.index_of.ensures.accepted none ∙ rw (is.0, is.1, e) refl in
     c.is_some.ensures ∙ ap is_some found ∙ ap (λ b. b && is_some (coverage_index t (s + u32_at t (s + 4 + 4 * k)) c.args.glyph)) (sym l)
