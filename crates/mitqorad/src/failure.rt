@@ -84,7 +84,8 @@ fn refusal_meaning(refusal: &Refusal) -> &'static str {
 // What a structure's rule asks, where it is broken.
 fn rule_meaning(rule: Rule) -> &'static str {
     match rule {
-        Rule::Unknown => "unknown version, format or type, or an offset of 0 where a structure must be",
+        Rule::Unknown =>
+            "unknown version, format or type, or an offset of 0 where a structure must be",
         Rule::Order => "entries do not rise, a range ends before it begins, or a wrong start index",
         Rule::Bounds => "a count, length or glyph number beyond its bounds",
         Rule::Missing => "no such lookup",
