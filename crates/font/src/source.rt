@@ -1,7 +1,8 @@
 ghost use Rattle.std.specs.Prelude.{◌≡◌, ℕ, List, [], map, length, if◌then◌else◌, nat_lt};
-ghost use Rattle.font.specs.Font.{Font, width};
+ghost use Rattle.font.specs.Font.{Font, class_number, width};
 ghost use Rattle.font.specs.Told.{Told, gave, refused, told};
 
+use crate::glyph_class::GlyphClass;
 use crate::refusal::Refusal;
 
 // What shaping asks of a font. Every question takes any number, is never refused and changes nothing.
@@ -12,9 +13,9 @@ pub trait FontSource {
     fn glyph(&self, character: u32) -> u16
         ensures { result ≡ (means self.now).glyph character };
 
-    // The class of a glyph: 0 none, 1 base, 2 ligature, 3 mark, 4 component.
-    fn class(&self, glyph: u16) -> u8
-        ensures { result ≡ (means self.now).class glyph };
+    // The class of a glyph, if it has one.
+    fn class(&self, glyph: u16) -> Option<GlyphClass>
+        ensures { class_number result ≡ (means self.now).class glyph };
 
     // The mark attachment class of a glyph.
     fn mark_class(&self, glyph: u16) -> u16
@@ -59,7 +60,7 @@ pub fn run_width<S: MeasuredSource, G: HasGlyph>(source: &S, run: &[G]) -> Resul
     }
     Ok(
         run.iter()
-            .map(|record| source.advance(record.glyph()) as u32)
+            .map(|record| u32::from(source.advance(record.glyph())))
             .sum(),
     )
 }

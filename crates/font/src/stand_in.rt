@@ -1,6 +1,7 @@
 ghost use Rattle.std.specs.Prelude.{◌≡◌};
 ghost use Rattle.font.specs.StandIn.{pairs_of, stand_in_font};
 
+use crate::glyph_class::GlyphClass;
 use crate::pairs::PairTable;
 use crate::search::first_that;
 use crate::source::{FontSource, MeasuredSource};
@@ -26,7 +27,7 @@ impl<S: FontSource> FontSource for StandIn<S> {
         }
     }
 
-    fn class(&self, glyph: u16) -> u8 {
+    fn class(&self, glyph: u16) -> Option<GlyphClass> {
         self.below.class(glyph)
     }
 

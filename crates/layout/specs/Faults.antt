@@ -20,6 +20,10 @@ first_in (x ∷ xs) = Some x
 abbrev pub extent : (table : List ℕ) → (start i w n : ℕ) → List Fault
 extent t s i w n = unless (nat_le (i + w * n) (length t)) 1 s (i + w * ((length t - i) / w))
 
+-- The count at byte i, and behind it that many fields of w bytes.
+abbrev pub counted_extent : (table : List ℕ) → (start i w : ℕ) → List Fault
+counted_extent t s i w = extent t s i 2 1 ++ extent t s (i + 2) w (u16_at t i)
+
 -- The faults of what an offset leads to, counted from `base`; none where the offset is 0 and that is allowed.
 abbrev pub if_there : (offset base : ℕ) → (faults : ℕ → List Fault) → List Fault
 if_there offset base faults = cond (offset == 0) [] (faults (base + offset))

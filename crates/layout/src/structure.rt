@@ -1,7 +1,7 @@
-ghost use Rattle.std.specs.Prelude.{◌≡◌, true, ◌+◌, ◌*◌, ◌^◌, ◌<◌, ◌≤◌, length, IfOk, IfSome, IfNone, OnOk, ◌≢◌};
+ghost use Rattle.std.specs.Prelude.{◌≡◌, true, ◌+◌, ◌-◌, ◌*◌, ◌^◌, ◌<◌, ◌≤◌, min, length, IfOk, IfSome, IfNone, OnOk, ◌≢◌};
 ghost use Rattle.layout.specs.Bytes.{u16_at, bytes_of};
-ghost use Rattle.layout.specs.Faults.{first_in, extent, unless, format_faults};
-ghost use Rattle.layout.specs.Told.{verdict, byte_verdict, number_of};
+ghost use Rattle.layout.specs.Faults.{first_in, extent, counted_extent, unless, format_faults};
+ghost use Rattle.layout.specs.Told.{verdict, byte_verdict, told, number_of};
 
 use crate::bytes::{Field, Width};
 use crate::fault::{ByteFault, Rule, StructureFault};
@@ -48,19 +48,34 @@ impl<'a> Structure<'a> {
         Ok(F::read(self.table, at))
     }
 
+    // The count at a byte; that many fields stand behind it.
+    pub fn counted(&self, at: usize, width: Width) -> Result<u16, ByteFault>
+        ensures answer { byte_verdict result ≡ first_in (counted_extent self.now.table.now self.now.start at (bytes_of width)) }
+        ensures count { IfOk result (λ n. (n ≡ u16_at self.now.table.now at) × (at + 2 + bytes_of width * n ≤ length self.now.table.now)) }
+    {
+        let count = self.field::<u16>(at)?;
+        self.check_fields(at + 2, width, u64::from(count))?;
+        Ok(count)
+    }
+
+    // The fault of a field at a byte that breaks a rule.
+    pub fn broken(&self, rule: Rule, at: usize) -> StructureFault
+        ensures { told result ≡ record { number = number_of rule; start = self.now.start; byte = at } }
+    {
+        let start = self.start;
+        StructureFault::Broken { rule, start, at }
+    }
+
     // A test of the field at a byte: a rule that it breaks where the test fails.
     pub fn require(&self, test: bool, rule: Rule, at: usize) -> Result<(), StructureFault>
         ensures answer { verdict result ≡ first_in (unless test (number_of rule) self.now.start at) }
         ensures passed { OnOk result (test ≡ true) }
     {
         if test {
-            return Ok(());
+            Ok(())
+        } else {
+            Err(self.broken(rule, at))
         }
-        Err(StructureFault::Broken {
-            rule,
-            start: self.start,
-            at,
-        })
     }
 
     // The format that it begins with, from 1 to some number.
@@ -80,9 +95,9 @@ impl<'a> Structure<'a> {
         u16::read(self.table, self.start.saturating_add(offset))
     }
 
-    // The structure that the 16-bit offset at a byte leads to, counted from the start of this one; none where the offset is 0.
+    // The structure that the 16-bit offset at a byte leads to, counted from the start of this one; none where the offset is 0. No table reaches to where the sum is cut off.
     pub fn behind(&self, at: usize) -> Option<Structure<'a>>
-        ensures some { IfSome result (λ target. (target.table.now ≡ self.now.table.now) × (self.now.start ≤ length self.now.table.now → target.start ≡ self.now.start + u16_at self.now.table.now at) × (u16_at self.now.table.now at ≢ 0)) }
+        ensures some { IfSome result (λ target. (target.table.now ≡ self.now.table.now) × (target.start ≡ min (self.now.start + u16_at self.now.table.now at) (2 ^ 64 - 1)) × (u16_at self.now.table.now at ≢ 0)) }
         ensures none { IfNone result (u16_at self.now.table.now at ≡ 0) }
     {
         let link = usize::from(u16::read(self.table, at));
