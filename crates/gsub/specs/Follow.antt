@@ -2,7 +2,7 @@
 use Rattle.std.specs.Prelude.{ℕ, ◌+◌, Bool, false, cond, ◌&&◌, List, ◌++◌, ◌==◌, nat_le}
 use Rattle.layout.specs.Bytes.{u16_at}
 use Rattle.layout.specs.declared.fault.Fault.{Fault}
-use Rattle.layout.specs.Faults.{unless, extent, in_turn}
+use Rattle.layout.specs.Faults.{unless, extent, counted_extent, in_turn}
 
 -- What a walk goes over: a table, and how many lookups it has.
 pub record Walked : Type 0 where
@@ -27,4 +27,4 @@ each_behind null t s i n faults = in_turn (λ k b. behind null t s b faults) 2 0
 
 -- A structure that lists others: the count at its start, the extent of the offsets, and what they lead to.
 abbrev pub list_faults : (table : List ℕ) → (s : ℕ) → Faults → List Fault
-list_faults t s faults = extent t s s 2 1 ++ (extent t s (s + 2) 2 (u16_at t s) ++ each_behind false t s (s + 2) (u16_at t s) faults)
+list_faults t s faults = counted_extent t s s 2 ++ each_behind false t s (s + 2) (u16_at t s) faults

@@ -1,5 +1,5 @@
 -- Rules of context lookups: which glyphs must stand before, in and after the input, and the records that a match runs.
-use Rattle.std.specs.Prelude.{ℕ, ◌+◌, ◌-◌, ◌*◌, ◌≤◌, Bool, true, false, List, ◌++◌, length, nat_lt}
+use Rattle.std.specs.Prelude.{ℕ, ◌+◌, ◌-◌, ◌*◌, ◌^◌, ◌<◌, ◌≤◌, Bool, true, false, List, ◌++◌, nat_lt}
 use Rattle.layout.specs.Bytes.{u16_at}
 use Rattle.layout.specs.Coverages.{coverage_faults}
 use Rattle.layout.specs.declared.fault.Fault.{Fault}
@@ -8,6 +8,8 @@ use Rattle.gsub.specs.declared.arrays.Entries.{Entries}
 use Rattle.gsub.specs.declared.arrays.Entries.TheVariants.{All, ButFirst, Records}
 use Rattle.gsub.specs.declared.arrays.Array.{Array}
 use Rattle.gsub.specs.declared.rules.RuleArrays.{RuleArrays}
+use Rattle.gsub.specs.declared.rules.RulePlace.{RulePlace}
+use Rattle.gsub.specs.declared.rules.RulePlace.TheVariants.{InSet, BehindFormat}
 use Rattle.gsub.specs.Follow.{count_faults, each_behind}
 
 -- How many entries an array lists, by its count, and how many fields they take: one each, but a record has two. Rules do not list the first input entry.
@@ -74,6 +76,15 @@ abbrev pub counts_of : (chain : Bool) → (table : List ℕ) → (s i : ℕ) →
 counts_of false t s i entries = plain_counts t s i entries
 counts_of true t s i entries = chain_counts t s i entries
 
+-- Where the rule of the structure at s stands, and how it lists its input.
+abbrev pub rule_byte : RulePlace → (s : ℕ) → ℕ
+rule_byte InSet s = s
+rule_byte BehindFormat s = s + 2
+
+abbrev pub inputs_of : RulePlace → Entries
+inputs_of InSet = ButFirst
+inputs_of BehindFormat = All
+
 -- The faults of a rule of a rule set.
 abbrev pub rule_faults : (chain : Bool) → (table : List ℕ) → (lookups s : ℕ) → List Fault
 rule_faults chain t lookups s = counts_of chain t s s ButFirst ++ records_of t lookups s (rule_of chain t s ButFirst)
@@ -91,9 +102,9 @@ NotRecords All = Unit {0}
 NotRecords ButFirst = Unit {0}
 NotRecords Records = ⊥
 
--- All arrays of a rule lie in the table.
-pub record Inside (t : List ℕ) (r : RuleArrays) : Type 0 where
-  pub backtrack : past r.backtrack ≤ length t
-  pub input : past r.input ≤ length t
-  pub lookahead : past r.lookahead ≤ length t
-  pub records : r.records.at + 4 * r.records.count ≤ length t
+-- All arrays of a rule stand behind the start of its structure, and no table reaches to where their ends would not fit.
+pub record Lies (s : ℕ) (r : RuleArrays) : Type 0 where
+  pub backtrack : (s ≤ r.backtrack.at) × (past r.backtrack < 2 ^ 64)
+  pub input : (s ≤ r.input.at) × (past r.input < 2 ^ 64)
+  pub lookahead : (s ≤ r.lookahead.at) × (past r.lookahead < 2 ^ 64)
+  pub records : r.records.at + 4 * r.records.count < 2 ^ 64

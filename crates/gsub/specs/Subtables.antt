@@ -4,14 +4,14 @@ use Rattle.layout.specs.Bytes.{u16_at}
 use Rattle.layout.specs.Classes.{class_faults}
 use Rattle.layout.specs.Coverages.{coverage_faults, coverage_ranges}
 use Rattle.layout.specs.declared.fault.Fault.{Fault}
-use Rattle.layout.specs.Faults.{unless, extent}
+use Rattle.layout.specs.Faults.{unless, extent, counted_extent}
 use Rattle.layout.specs.Ranges.{size}
 use Rattle.gsub.specs.Forms.{Form, delta, single, multiple, alternate, ligature, glyph_rules, class_rules, coverage_rule, reverse, form_of}
 use Rattle.gsub.specs.Follow.{Faults, behind, each_behind, list_faults}
 use Rattle.gsub.specs.declared.arrays.Array.{Array}
 use Rattle.gsub.specs.declared.rules.RuleArrays.{RuleArrays}
 use Rattle.gsub.specs.declared.arrays.Entries.TheVariants.{All, ButFirst}
-use Rattle.gsub.specs.Rules.{past, array_at, rule_of, counts_of, counted_array, records_of, rule_faults, coverages, context_coverages}
+use Rattle.gsub.specs.Rules.{past, array_at, rule_of, counts_of, counted_array, records_of, rule_faults, context_coverages}
 
 -- The coverage of the subtable at s, whose offset stands at byte s + 2.
 abbrev pub coverage_of : (table : List ℕ) → (s : ℕ) → List Fault
@@ -34,7 +34,7 @@ abbrev pub sequence_faults : (table : List ℕ) → (s : ℕ) → List Fault
 sequence_faults t s = counted_array t s s 1 All
 
 abbrev pub alternates_faults : (table : List ℕ) → (s : ℕ) → List Fault
-alternates_faults t s = extent t s s 2 1 ++ extent t s (s + 2) 2 (u16_at t s)
+alternates_faults t s = counted_extent t s s 2
 
 -- A ligature: its glyph, how many components it has (1 to 64), and the components from the second on. A set of type 4 lists ligatures.
 abbrev pub ligature_faults : (table : List ℕ) → (s : ℕ) → List Fault
@@ -60,22 +60,21 @@ module _ (t : List ℕ) (s : ℕ) where
       ++ (extent t s (s + 6 + 2 * n) 2 (u16_at t (s + 4 + 2 * n))
       ++ (coverage_of t s ++ (each_behind true t s (s + 4) n (class_faults t) ++ each_behind true t s (s + 6 + 2 * n) (u16_at t (s + 4 + 2 * n)) sets)))
 
-  -- Type 8: coverage; backtrack and lookahead coverages, 0 to 64 each; a glyph for each index.
-  abbrev pub backtrack_array : Array
-  backtrack_array = array_at t (s + 4) All
-
-  abbrev pub lookahead_array : Array
-  lookahead_array = array_at t (past backtrack_array) All
+  -- Type 8: coverage; backtrack and lookahead coverages, 0 to 64 each; a glyph for each index. It is a rule whose input is the glyph alone, and without records.
+  abbrev pub reverse_rule : RuleArrays
+  reverse_rule =
+      let backtrack : Array = array_at t (s + 4) All in
+      let none : Array = record { at = s; count = 0 } in
+      record { backtrack = backtrack; input = none; lookahead = array_at t (past backtrack) All; records = none }
 
   abbrev pub reverse_arrays : List Fault
   reverse_arrays =
       extent t s (s + 2) 2 1
       ++ (counted_array t s (s + 4) 0 All
-      ++ (counted_array t s (past backtrack_array) 0 All
-      ++ (extent t s (past lookahead_array) 2 1 ++ extent t s (past lookahead_array + 2) 2 (u16_at t (past lookahead_array)))))
+      ++ (counted_array t s (past reverse_rule.backtrack) 0 All ++ counted_extent t s (past reverse_rule.lookahead) 2))
 
   abbrev pub reverse_faults : List Fault
-  reverse_faults = reverse_arrays ++ (coverage_of t s ++ (enough t s (past lookahead_array) ++ (coverages t s backtrack_array ++ coverages t s lookahead_array)))
+  reverse_faults = reverse_arrays ++ (coverage_of t s ++ (enough t s (past reverse_rule.lookahead) ++ context_coverages t s reverse_rule))
 
 module _ (t : List ℕ) (lookups s : ℕ) where
   -- Format 3: one rule whose entries are coverages.

@@ -5,7 +5,7 @@ use Rattle.layout.specs.declared.fault.Report.{Report}
 use Rattle.layout.specs.declared.fault.TableName.TheVariants.{Gsub}
 use Rattle.layout.specs.Bytes.{u16_at, u32_at}
 use Rattle.layout.specs.declared.fault.Fault.{Fault}
-use Rattle.layout.specs.Faults.{unless, extent, format_faults, in_turn, reports, own_place, too_long}
+use Rattle.layout.specs.Faults.{unless, extent, counted_extent, format_faults, in_turn, reports, own_place, too_long}
 use Rattle.gsub.specs.Follow.{each_behind}
 use Rattle.gsub.specs.Subtables.{subtable_faults}
 
@@ -23,7 +23,7 @@ abbrev pub lookup_count : (table : List ℕ) → ℕ
 lookup_count t = u16_at t (u16_at t 8)
 
 abbrev pub lookup_list_faults : (table : List ℕ) → (s : ℕ) → List Fault
-lookup_list_faults t s = extent t s s 2 1 ++ extent t s (s + 2) 2 (u16_at t s)
+lookup_list_faults t s = counted_extent t s s 2
 
 -- Type 7 moves a subtable: format 1, the type of what is moved, and its offset of 32 bits. That type is 1 to 6 or 8, the same in one lookup.
 abbrev pub movable : (type : ℕ) → Bool

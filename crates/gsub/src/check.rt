@@ -1,11 +1,11 @@
 ghost use Rattle.std.specs.Prelude.{◌≡◌, IfOk};
 ghost use Rattle.gsub.specs.Meaning.{all_subtables, subtable_count};
-ghost use Rattle.gsub.specs.Tables.{gsub_faults, walk_faults, lookup_count};
+ghost use Rattle.gsub.specs.Tables.{gsub_faults, lookup_count};
 ghost use Rattle.gsub.specs.Told.{Right, kept, of_fault, of_memory, of_placed, told};
 
 use crate::lookups::{check_header, lookup_count};
 use crate::table::Gsub;
-use crate::walk::Walk;
+use crate::walk::{Start, Walk};
 use layout::bytes::Field;
 use layout::fault::{Place, PlacedFault, TableFault, TableName, check_length};
 use layout::structure::Structure;
@@ -43,25 +43,6 @@ impl From<PlacedFault> for CheckError {
     }
 }
 
-// The whole table behind its length. The memory for what is remembered takes 16 bits for each byte.
-fn check_behind_length(heap: Global, table: &[u8]) -> Result<(), CheckError>
-    ensures { Right (walk_faults table.now) (told result) }
-{
-    let place = Place::of(TableName::Gsub);
-    let start = usize::from(place.hold(check_header(table))?);
-    let lookups = place.hold(lookup_count(Structure { table, start }))?;
-    let mut walk = Walk::new(heap, table, lookups)?;
-    Ok(walk.check_lookups(start)?)
-}
-
-// The first fault of a table.
-fn check(heap: Global, table: &[u8]) -> Result<(), CheckError>
-    ensures { Right (gsub_faults table.now) (told result) }
-{
-    check_length(TableName::Gsub, table)?;
-    check_behind_length(heap, table)
-}
-
 impl<'a> Gsub<'a> {
     // A table with no lookups.
     pub fn new() -> Gsub<'a>
@@ -72,12 +53,16 @@ impl<'a> Gsub<'a> {
         }
     }
 
-    // A table, if it has no fault; else its first fault is answered.
+    // A table, if it has no fault; else its first fault is answered. The memory for what is remembered takes 16 bits for each byte.
     pub fn checked(heap: Global, table: &'a [u8]) -> Result<Gsub<'a>, CheckError>
         ensures answer { Right (gsub_faults table.now) (told result) }
         ensures table { IfOk result (λ gsub. gsub.table.now ≡ table.now) }
     {
-        check(heap, table)?;
+        check_length(TableName::Gsub, table)?;
+        let place = Place::of(TableName::Gsub);
+        let start = usize::from(place.hold(check_header(table))?);
+        let lookups = place.hold(lookup_count(Structure { table, start }))?;
+        Walk::new(heap, table, lookups)?.check_lookups(Start { byte: start })?;
         Ok(Gsub { table })
     }
 

@@ -1,5 +1,5 @@
 // What offsets lead to.
-ghost use Rattle.std.specs.Prelude.{◌≡◌, ◌≤◌, length};
+ghost use Rattle.std.specs.Prelude.{◌≡◌, ◌+◌, ◌*◌, ◌^◌, ◌<◌, ◌≤◌};
 ghost use Rattle.layout.specs.Told.{verdict};
 ghost use Rattle.layout.specs.Faults.{first_in};
 ghost use Rattle.gsub.specs.Follow.{behind, each_behind, list_faults};
@@ -8,10 +8,18 @@ ghost use Rattle.gsub.specs.Seen.{faults_of};
 
 use crate::arrays::Array;
 use crate::seen::Kind;
-use crate::walk::Walk;
-use layout::bytes::{Field, Width};
+use crate::walk::{Start, Walk};
+use layout::bytes::Width;
 use layout::fault::{Rule, StructureFault};
-use layout::structure::Structure;
+
+// The offsets that an array of a structure has, behind its start.
+#[derive(Clone, Copy)]
+pub(crate) struct Offsets {
+    pub(crate) start: Start,
+    pub(crate) array: Array,
+    ghost behind: { start.byte ≤ array.at },
+    ghost fits: { past array < 2 ^ 64 },
+}
 
 // A kind of structure that offsets lead to.
 pub(crate) trait Target {
@@ -22,9 +30,9 @@ pub(crate) trait Target {
 
     ghost faults: { Self → Walked → Faults };
 
-    // The first fault of the structure that starts at a byte.
-    fn check(&self, walk: &mut Walk<'_>, start: usize) -> Result<(), StructureFault>
-        ensures answer { verdict result ≡ first_in (faults self.now walk.old start) }
+    // The first fault of a structure of this kind.
+    fn check(&self, walk: &mut Walk<'_>, start: Start) -> Result<(), StructureFault>
+        ensures answer { verdict result ≡ first_in (faults self.now walk.old start.byte) }
         ensures same { walk.new ≡ walk.old };
 }
 
@@ -50,7 +58,7 @@ pub(crate) struct Once<C>(pub(crate) C);
 impl<C: Remembered> Target for Once<C> {
     ghost faults = { λ once. C.faults once.0 };
 
-    fn check(&self, walk: &mut Walk<'_>, start: usize) -> Result<(), StructureFault> {
+    fn check(&self, walk: &mut Walk<'_>, start: Start) -> Result<(), StructureFault> {
         walk.check_once(&self.0, self.0.kind(), start)
     }
 }
@@ -62,28 +70,26 @@ pub(crate) struct ListOf<C>(pub(crate) C);
 impl<C: Target> Target for ListOf<C> {
     ghost faults = { λ list walked s. list_faults walked.table s (C.faults list.0 walked) };
 
-    fn check(&self, walk: &mut Walk<'_>, start: usize) -> Result<(), StructureFault> {
-        let structure = walk.structure(start);
-        let count = structure.field::<u16>(start)?;
-        structure.check_fields(start + 2, Width::Two, u64::from(count))?;
-        let offsets = Array {
-            at: start + 2,
+    fn check(&self, walk: &mut Walk<'_>, start: Start) -> Result<(), StructureFault> {
+        let count = walk.structure(start).counted(start.byte, Width::Two)?;
+        let array = Array {
+            at: start.byte + 2,
             count: usize::from(count),
         };
-        walk.check_each(&self.0, structure, offsets, false)
+        walk.check_each(&self.0, Offsets { start, array }, false)
     }
 }
 
 impl Walk<'_> {
-    // Walks a structure, unless one of its kind that starts there was found without faults before.
+    // Walks a structure, unless it was found without faults before.
     pub(crate) fn check_once<C: Target>(
         &mut self,
         child: &C,
         kind: Kind,
-        start: usize,
+        start: Start,
     ) -> Result<(), StructureFault>
-        requires { faults_of kind self.old.table self.old.lookups start ≡ C.Target.faults child.now self.old start }
-        ensures answer { verdict result ≡ first_in (C.Target.faults child.now self.old start) }
+        requires { faults_of kind self.old.table self.old.lookups start.byte ≡ C.Target.faults child.now self.old start.byte }
+        ensures answer { verdict result ≡ first_in (C.Target.faults child.now self.old start.byte) }
         ensures same { self.new ≡ self.old }
     {
         if self.is_remembered(kind, start) {
@@ -94,39 +100,39 @@ impl Walk<'_> {
         Ok(())
     }
 
-    // What the offset at a byte of a structure leads to. `null` says whether it may be 0: yes or no, with nothing beside, so that an enum would be no plainer.
-    pub(crate) fn check_behind<C: Target>(
+    // What offset number k leads to. `null` says whether it may be 0: yes or no, with nothing beside, so that an enum would be no plainer.
+    fn check_behind<C: Target>(
         &mut self,
         child: &C,
-        structure: Structure<'_>,
-        at: usize,
+        offsets: Offsets,
+        k: usize,
         null: bool,
     ) -> Result<(), StructureFault>
-        requires { structure.start ≤ length structure.table.now }
-        ensures answer { verdict result ≡ first_in (behind null structure.entry.table.now structure.entry.start at (C.Target.faults child.now self.old)) }
+        requires { k < offsets.array.count }
+        ensures answer { verdict result ≡ first_in (behind null self.old.table offsets.start.byte (offsets.array.at + 2 * k) (C.Target.faults child.now self.old)) }
         ensures same { self.new ≡ self.old }
     {
-        match structure.behind(at) {
-            Some(target) => child.check(self, target.start),
-            None => structure.require(null, Rule::Unknown, at),
+        let at = offsets.array.at + 2 * k;
+        match self.behind(offsets.start, at) {
+            Some(target) => child.check(self, target),
+            None => self
+                .structure(offsets.start)
+                .require(null, Rule::Unknown, at),
         }
     }
 
-    // What the offsets of an array lead to, in order.
+    // What offsets lead to, in order.
     pub(crate) fn check_each<C: Target>(
         &mut self,
         child: &C,
-        structure: Structure<'_>,
-        array: Array,
+        offsets: Offsets,
         null: bool,
     ) -> Result<(), StructureFault>
-        requires start { structure.start ≤ length structure.table.now }
-        requires array { past array ≤ length structure.table.now }
-        ensures answer { verdict result ≡ first_in (each_behind null structure.entry.table.now structure.entry.start array.at array.count (C.Target.faults child.now self.old)) }
+        ensures answer { verdict result ≡ first_in (each_behind null self.old.table offsets.start.byte offsets.array.at offsets.array.count (C.Target.faults child.now self.old)) }
         ensures same { self.new ≡ self.old }
     {
-        for k in 0..array.count {
-            self.check_behind(child, structure, array.at + 2 * k, null)?;
+        for k in 0..offsets.array.count {
+            self.check_behind(child, offsets, k, null)?;
         }
         Ok(())
     }

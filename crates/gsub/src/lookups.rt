@@ -1,11 +1,11 @@
-ghost use Rattle.std.specs.Prelude.{◌≡◌, ◌+◌, ◌*◌, ◌≤◌, length, IfOk, OnOk};
+ghost use Rattle.std.specs.Prelude.{◌≡◌, ◌+◌, ◌*◌, ◌≤◌, length, IfOk};
 ghost use Rattle.layout.specs.Bytes.{u16_at, u32_at};
 ghost use Rattle.layout.specs.Faults.{first_in, in_turn};
 ghost use Rattle.layout.specs.Told.{verdict, placed_verdict};
 ghost use Rattle.gsub.specs.Tables.{movable, extension_fields, extension_faults, has_mark_set, in_lookup, lookup_fields, lookup_subtable, moved_type, subtable_faults_at, lookup_faults, lookup_faults_at, header_faults, lookup_list_faults};
 
 use crate::seen::Kind;
-use crate::walk::Walk;
+use crate::walk::{Start, Walk};
 use layout::bytes::{Field, Width};
 use layout::fault::{Place, PlacedFault, Rule, StructureFault, TableName};
 use layout::structure::Structure;
@@ -40,8 +40,7 @@ fn has_mark_set(lookup: Structure<'_>) -> bool
 
 // The fields of a lookup.
 fn check_lookup_fields(lookup: Structure<'_>) -> Result<(), StructureFault>
-    ensures answer { verdict result ≡ first_in (lookup_fields lookup.entry.table.now lookup.entry.start) }
-    ensures inside { OnOk result (lookup.entry.start + 6 + 2 * u16_at lookup.entry.table.now (lookup.entry.start + 4) ≤ length lookup.entry.table.now) }
+    ensures { verdict result ≡ first_in (lookup_fields lookup.entry.table.now lookup.entry.start) }
 {
     let start = lookup.start;
     let lookup_type = lookup.field::<u16>(start)?;
@@ -54,11 +53,10 @@ fn check_lookup_fields(lookup: Structure<'_>) -> Result<(), StructureFault>
 
 // The type that an extension lookup moves.
 fn moved_type(lookup: Structure<'_>) -> u16
-    requires { lookup.start + 8 ≤ length lookup.table.now }
     ensures { result ≡ moved_type lookup.entry.table.now lookup.entry.start }
 {
-    let first = lookup.start + usize::from(lookup.u16_in(6));
-    u16::read(lookup.table, first + 2)
+    let first = usize::from(lookup.u16_in(6));
+    lookup.u16_in(first + 2)
 }
 
 fn in_lookup(lookup: u16, subtable: Option<u16>) -> Place
@@ -73,60 +71,59 @@ fn in_lookup(lookup: u16, subtable: Option<u16>) -> Place
 
 impl Walk<'_> {
     // A subtable of type 7 in a lookup that moves a type.
-    fn check_extension(&mut self, moved: u16, start: usize) -> Result<(), StructureFault>
-        ensures answer { verdict result ≡ first_in (extension_faults self.old.table self.old.lookups moved start) }
+    fn check_extension(&mut self, moved: u16, start: Start) -> Result<(), StructureFault>
+        ensures answer { verdict result ≡ first_in (extension_faults self.old.table self.old.lookups moved start.byte) }
         ensures same { self.new ≡ self.old }
     {
         let offset = extension_offset(moved, self.structure(start))?;
-        self.check_subtable(moved, start + offset as usize)
+        let byte = start.byte + offset as usize;
+        self.check_subtable(moved, Start { byte })
     }
 
-    // A subtable of the lookup at `start` that starts at a byte.
-    fn check_lookup_subtable(&mut self, start: usize, at: usize) -> Result<(), StructureFault>
-        requires { start + 8 ≤ length self.old.table }
-        ensures answer { verdict result ≡ first_in (lookup_subtable self.old.table self.old.lookups start at) }
+    // A subtable of the lookup at `lookup`.
+    fn check_lookup_subtable(
+        &mut self,
+        lookup: Start,
+        subtable: Start,
+    ) -> Result<(), StructureFault>
+        ensures answer { verdict result ≡ first_in (lookup_subtable self.old.table self.old.lookups lookup.byte subtable.byte) }
         ensures same { self.new ≡ self.old }
     {
-        let lookup = self.structure(start);
-        let lookup_type = u16::read(lookup.table, start);
-        if lookup_type != 7 {
-            return self.check_subtable(lookup_type, at);
+        let lookup = self.structure(lookup);
+        match u16::read(lookup.table, lookup.start) {
+            7 => self.check_extension(moved_type(lookup), subtable),
+            lookup_type => self.check_subtable(lookup_type, subtable),
         }
-        self.check_extension(moved_type(lookup), at)
     }
 
     // Subtable number j of lookup k.
-    fn check_subtable_at(&mut self, k: u16, j: u16, start: usize) -> Result<(), PlacedFault>
-        requires { start + 8 + 2 * j ≤ length self.old.table }
-        ensures answer { placed_verdict result ≡ first_in (subtable_faults_at self.old.table self.old.lookups k start j (start + 6 + 2 * j)) }
+    fn check_subtable_at(&mut self, k: u16, j: u16, lookup: Start) -> Result<(), PlacedFault>
+        ensures answer { placed_verdict result ≡ first_in (subtable_faults_at self.old.table self.old.lookups k lookup.byte j (lookup.byte + 6 + 2 * j)) }
         ensures same { self.new ≡ self.old }
     {
-        let lookup = self.structure(start);
-        let at = start + 6 + 2 * usize::from(j);
-        match lookup.behind(at) {
-            Some(subtable) => {
-                let answer = self.check_lookup_subtable(start, subtable.start);
-                in_lookup(k, Some(j)).hold(answer)
-            }
-            None => in_lookup(k, None).hold(lookup.require(false, Rule::Unknown, at)),
-        }
+        let at = lookup.byte + 6 + 2 * usize::from(j);
+        let Some(subtable) = self.behind(lookup, at) else {
+            let fault = self.structure(lookup).broken(Rule::Unknown, at);
+            return in_lookup(k, None).hold(Err(fault));
+        };
+        let answer = self.check_lookup_subtable(lookup, subtable);
+        in_lookup(k, Some(j)).hold(answer)
     }
 
     // The subtables of lookup k, in order.
-    fn check_subtables(&mut self, k: u16, start: usize, count: u16) -> Result<(), PlacedFault>
-        requires { start + 6 + 2 * count ≤ length self.old.table }
-        ensures answer { placed_verdict result ≡ first_in (in_turn (subtable_faults_at self.old.table self.old.lookups k start) 2 0 (start + 6) count) }
+    fn check_subtables(&mut self, k: u16, lookup: Start, count: u16) -> Result<(), PlacedFault>
+        ensures answer { placed_verdict result ≡ first_in (in_turn (subtable_faults_at self.old.table self.old.lookups k lookup.byte) 2 0 (lookup.byte + 6) count) }
         ensures same { self.new ≡ self.old }
     {
         for j in 0..count {
-            self.check_subtable_at(k, j, start)?;
+            self.check_subtable_at(k, j, lookup)?;
         }
         Ok(())
     }
 
-    // Lookup k, which starts at a byte, unless that was found without faults before.
-    fn check_lookup(&mut self, k: u16, start: usize) -> Result<(), PlacedFault>
-        ensures answer { placed_verdict result ≡ first_in (lookup_faults self.old.table self.old.lookups k start) }
+    // Lookup k, unless it was found without faults before.
+    fn check_lookup(&mut self, k: u16, start: Start) -> Result<(), PlacedFault>
+        ensures answer { placed_verdict result ≡ first_in (lookup_faults self.old.table self.old.lookups k start.byte) }
         ensures same { self.new ≡ self.old }
     {
         if self.is_remembered(Kind::Lookup, start) {
@@ -139,24 +136,22 @@ impl Walk<'_> {
         Ok(())
     }
 
-    // Lookup k of the list that starts at a byte.
-    fn check_lookup_at(&mut self, k: u16, list: usize) -> Result<(), PlacedFault>
-        requires { list + 4 + 2 * k ≤ length self.old.table }
-        ensures answer { placed_verdict result ≡ first_in (lookup_faults_at self.old.table self.old.lookups list k (list + 2 + 2 * k)) }
+    // Lookup k of the list at `list`.
+    fn check_lookup_at(&mut self, k: u16, list: Start) -> Result<(), PlacedFault>
+        ensures answer { placed_verdict result ≡ first_in (lookup_faults_at self.old.table self.old.lookups list.byte k (list.byte + 2 + 2 * k)) }
         ensures same { self.new ≡ self.old }
     {
-        let lookups = self.structure(list);
-        let at = list + 2 + 2 * usize::from(k);
-        match lookups.behind(at) {
-            Some(lookup) => self.check_lookup(k, lookup.start),
-            None => Place::of(TableName::Gsub).hold(lookups.require(false, Rule::Unknown, at)),
-        }
+        let at = list.byte + 2 + 2 * usize::from(k);
+        let Some(lookup) = self.behind(list, at) else {
+            let fault = self.structure(list).broken(Rule::Unknown, at);
+            return Place::of(TableName::Gsub).hold(Err(fault));
+        };
+        self.check_lookup(k, lookup)
     }
 
-    // All lookups, in order.
-    pub(crate) fn check_lookups(&mut self, list: usize) -> Result<(), PlacedFault>
-        requires { list + 2 + 2 * self.old.lookups ≤ length self.old.table }
-        ensures { placed_verdict result ≡ first_in (in_turn (lookup_faults_at self.old.table self.old.lookups list) 2 0 (list + 2) self.old.lookups) }
+    // All lookups of the list, in order.
+    pub(crate) fn check_lookups(&mut self, list: Start) -> Result<(), PlacedFault>
+        ensures { placed_verdict result ≡ first_in (in_turn (lookup_faults_at self.old.table self.old.lookups list.byte) 2 0 (list.byte + 2) self.old.lookups) }
     {
         for k in 0..self.lookups() {
             self.check_lookup_at(k, list)?;
@@ -184,9 +179,7 @@ pub(crate) fn check_header(table: &[u8]) -> Result<u16, StructureFault>
 // The lookup list's own fields. Answers how many lookups there are.
 pub(crate) fn lookup_count(list: Structure<'_>) -> Result<u16, StructureFault>
     ensures answer { verdict result ≡ first_in (lookup_list_faults list.entry.table.now list.entry.start) }
-    ensures count { IfOk result (λ n. (n ≡ u16_at list.entry.table.now list.entry.start) × (list.entry.start + 2 + 2 * n ≤ length list.entry.table.now)) }
+    ensures count { IfOk result (λ n. n ≡ u16_at list.entry.table.now list.entry.start) }
 {
-    let count = list.field::<u16>(list.start)?;
-    list.check_fields(list.start + 2, Width::Two, u64::from(count))?;
-    Ok(count)
+    Ok(list.counted(list.start, Width::Two)?)
 }

@@ -10,7 +10,7 @@ use crate::arrays::{Array, Entries};
 use crate::follow::{ListOf, Remembered, Target};
 use crate::rules::Rules;
 use crate::seen::Kind;
-use crate::walk::Walk;
+use crate::walk::{Start, Walk};
 use layout::bytes::Width;
 use layout::class::ClassDefinition;
 use layout::coverage::Coverage;
@@ -22,7 +22,7 @@ pub(crate) struct Coverages;
 impl Target for Coverages {
     ghost faults = { λ _ walked. coverage_faults walked.table };
 
-    fn check(&self, walk: &mut Walk<'_>, start: usize) -> Result<(), StructureFault> {
+    fn check(&self, walk: &mut Walk<'_>, start: Start) -> Result<(), StructureFault> {
         let structure = walk.structure(start);
         Coverage { structure }.check()
     }
@@ -44,7 +44,7 @@ pub(crate) struct Classes;
 impl Target for Classes {
     ghost faults = { λ _ walked. class_faults walked.table };
 
-    fn check(&self, walk: &mut Walk<'_>, start: usize) -> Result<(), StructureFault> {
+    fn check(&self, walk: &mut Walk<'_>, start: Start) -> Result<(), StructureFault> {
         let structure = walk.structure(start);
         ClassDefinition { structure }.check()
     }
@@ -67,8 +67,8 @@ pub(crate) struct Sequences;
 impl Target for Sequences {
     ghost faults = { λ _ walked. sequence_faults walked.table };
 
-    fn check(&self, walk: &mut Walk<'_>, start: usize) -> Result<(), StructureFault> {
-        Array::counted(walk.structure(start), start, 1, Entries::All)?;
+    fn check(&self, walk: &mut Walk<'_>, start: Start) -> Result<(), StructureFault> {
+        Array::counted(walk.structure(start), start.byte, 1, Entries::All)?;
         Ok(())
     }
 }
@@ -79,10 +79,9 @@ pub(crate) struct Alternates;
 impl Target for Alternates {
     ghost faults = { λ _ walked. alternates_faults walked.table };
 
-    fn check(&self, walk: &mut Walk<'_>, start: usize) -> Result<(), StructureFault> {
-        let structure = walk.structure(start);
-        let count = structure.field::<u16>(start)?;
-        Ok(structure.check_fields(start + 2, Width::Two, u64::from(count))?)
+    fn check(&self, walk: &mut Walk<'_>, start: Start) -> Result<(), StructureFault> {
+        walk.structure(start).counted(start.byte, Width::Two)?;
+        Ok(())
     }
 }
 
@@ -92,10 +91,10 @@ pub(crate) struct Ligatures;
 impl Target for Ligatures {
     ghost faults = { λ _ walked. ligature_faults walked.table };
 
-    fn check(&self, walk: &mut Walk<'_>, start: usize) -> Result<(), StructureFault> {
+    fn check(&self, walk: &mut Walk<'_>, start: Start) -> Result<(), StructureFault> {
         let structure = walk.structure(start);
-        structure.field::<u16>(start)?;
-        Array::counted(structure, start + 2, 1, Entries::ButFirst)?;
+        structure.field::<u16>(start.byte)?;
+        Array::counted(structure, start.byte + 2, 1, Entries::ButFirst)?;
         Ok(())
     }
 }

@@ -1,4 +1,4 @@
-ghost use Rattle.std.specs.Prelude.{◌≡◌, false, is_some};
+ghost use Rattle.std.specs.Prelude.{◌≡◌, None};
 ghost use Rattle.layout.specs.Faults.{first_in};
 ghost use Rattle.gsub.specs.Tables.{gsub_faults};
 
@@ -6,5 +6,5 @@ ghost use Rattle.gsub.specs.Tables.{gsub_faults};
 #[derive(Clone, Copy)]
 pub struct Gsub<'a> {
     pub(crate) table: &'a [u8],
-    ghost accepted: { is_some (first_in (gsub_faults table.now)) ≡ false },
+    ghost accepted: { first_in (gsub_faults table.now) ≡ None },
 }

@@ -1,4 +1,5 @@
-ghost use Rattle.std.specs.Prelude.{◌≡◌, true, IfOk, None};
+ghost use Rattle.std.specs.Prelude.{◌≡◌, ◌≢◌, true, ◌+◌, ◌^◌, ◌<◌, ◌≤◌, IfOk, IfSome, IfNone, None};
+ghost use Rattle.layout.specs.Bytes.{u16_at};
 ghost use Rattle.layout.specs.Faults.{first_in};
 ghost use Rattle.gsub.specs.Seen.{faults_of};
 
@@ -6,6 +7,13 @@ use crate::seen::Kind;
 use layout::structure::Structure;
 use std::alloc::{AllocError, Global};
 use std::marker::Model;
+
+// Where a structure may start: a byte that an offset can lead to. Its sums with sizes and with further offsets fit.
+#[derive(Clone, Copy)]
+pub(crate) struct Start {
+    pub(crate) byte: usize,
+    ghost near: { byte < 2 ^ 63 + 2 ^ 32 },
+}
 
 // A walk over a table with so many lookups. It remembers what it found without faults, which changes no answer: contracts see the table and the lookups alone. What takes it by `&mut` says that they stay (`same`); a type cannot say that of a call.
 #[derive(Drop)]
@@ -40,15 +48,24 @@ impl<'a> Walk<'a> {
         })
     }
 
-    // The structure that starts at a byte.
-    pub(crate) fn structure(&self, start: usize) -> Structure<'a>
+    pub(crate) fn structure(&self, start: Start) -> Structure<'a>
         ensures table { result.table.now ≡ self.now.table }
-        ensures start { result.start ≡ start }
+        ensures start { result.start ≡ start.byte }
     {
         Structure {
             table: self.table,
-            start,
+            start: start.byte,
         }
+    }
+
+    // What an offset in the structure at `start` leads to; nothing where it is 0.
+    pub(crate) fn behind(&self, start: Start, at: usize) -> Option<Start>
+        requires { start.byte ≤ at }
+        ensures some { IfSome result (λ target. (target.byte ≡ start.byte + u16_at self.now.table at) × (u16_at self.now.table at ≢ 0)) }
+        ensures none { IfNone result (u16_at self.now.table at ≡ 0) }
+    {
+        let target = self.structure(start).behind(at)?;
+        Some(Start { byte: target.start })
     }
 
     pub(crate) fn lookups(&self) -> u16
@@ -57,20 +74,20 @@ impl<'a> Walk<'a> {
         self.lookups
     }
 
-    // Whether a structure that starts at a byte was found without faults before.
-    pub(crate) fn is_remembered(&self, kind: Kind, start: usize) -> bool
-        ensures { result ≡ true → first_in (faults_of kind self.now.table self.now.lookups start) ≡ None }
+    // Whether a structure was found without faults before.
+    pub(crate) fn is_remembered(&self, kind: Kind, start: Start) -> bool
+        ensures { result ≡ true → first_in (faults_of kind self.now.table self.now.lookups start.byte) ≡ None }
     {
-        start < self.seen.len() && self.seen[start] & kind.bit() != 0
+        start.byte < self.seen.len() && self.seen[start.byte] & kind.bit() != 0
     }
 
     // Remembers one.
-    pub(crate) fn remember(&mut self, kind: Kind, start: usize)
-        requires { first_in (faults_of kind self.old.table self.old.lookups start) ≡ None }
+    pub(crate) fn remember(&mut self, kind: Kind, start: Start)
+        requires { first_in (faults_of kind self.old.table self.old.lookups start.byte) ≡ None }
         ensures { self.new ≡ self.old }
     {
-        if start < self.seen.len() {
-            self.seen[start] |= kind.bit();
+        if start.byte < self.seen.len() {
+            self.seen[start.byte] |= kind.bit();
         }
     }
 }

@@ -98,6 +98,7 @@ impl<'a> Structure<'a> {
     // The structure that the 16-bit offset at a byte leads to, counted from the start of this one; none where the offset is 0. No table reaches to where the sum is cut off.
     pub fn behind(&self, at: usize) -> Option<Structure<'a>>
         ensures some { IfSome result (λ target. (target.table.now ≡ self.now.table.now) × (target.start ≡ min (self.now.start + u16_at self.now.table.now at) (2 ^ 64 - 1)) × (u16_at self.now.table.now at ≢ 0)) }
+        ensures near { IfSome result (λ target. target.start ≤ self.now.start + 65535) }
         ensures none { IfNone result (u16_at self.now.table.now at ≡ 0) }
     {
         let link = usize::from(u16::read(self.table, at));

@@ -7,5 +7,5 @@ use Rattle.gsub.proofs.walk.Walk.check_each.Given as goal
 abbrev pub invariant-loop-k : goal.invariant-loop-k
 invariant-loop-k g l = record {
   same : l.self ≡ l.initial.self;
-  none : None ≡ first_in (each_behind l.null l.structure.table.now l.structure.start l.array.at l.k (g.C.Target.faults l.child l.self));
+  none : None ≡ first_in (each_behind l.null l.self.table l.offsets.start.byte l.offsets.array.at l.k (g.C.Target.faults l.child l.self));
 }

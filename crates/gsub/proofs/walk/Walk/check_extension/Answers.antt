@@ -13,6 +13,6 @@ returns-in_err-offset-clause-answer c =
     let p = err_from_is_err_and c.from_residual.result c.from_residual.ensures.1 in
     let w = c.args.self.now in
     let fault = told c.in_err-offset.field-0.0 in
-    let own : Some fault ≡ first_in (extension_fields w.table c.args.moved c.args.start) = rw (c.structure.ensures.table, c.structure.ensures.start) at c.in_err-offset.ensures.answer in
-    let all : first_in (extension_faults w.table w.lookups c.args.moved c.args.start) ≡ Some fault = first-before _ (subtable_faults w.table w.lookups (c.args.start + u32_at w.table (c.args.start + 4)) c.args.moved) fault (sym own) in
+    let own : Some fault ≡ first_in (extension_fields w.table c.args.moved c.args.start.byte) = rw (c.structure.ensures.table, c.structure.ensures.start) at c.in_err-offset.ensures.answer in
+    let all : first_in (extension_faults w.table w.lookups c.args.moved c.args.start.byte) ≡ Some fault = first-before _ (subtable_faults w.table w.lookups (c.args.start.byte + u32_at w.table (c.args.start.byte + 4)) c.args.moved) fault (sym own) in
     rw (p.1, p.2) (sym all)

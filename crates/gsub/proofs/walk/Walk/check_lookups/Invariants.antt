@@ -7,5 +7,5 @@ use Rattle.gsub.proofs.walk.Walk.check_lookups.Given as goal
 abbrev pub invariant-loop-k : goal.invariant-loop-k
 invariant-loop-k l = record {
   same : l.self ≡ l.initial.self;
-  none : None ≡ first_in (in_turn (lookup_faults_at l.self.table l.self.lookups l.list) 2 0 (l.list + 2) l.k);
+  none : None ≡ first_in (in_turn (lookup_faults_at l.self.table l.self.lookups l.list.byte) 2 0 (l.list.byte + 2) l.k);
 }

@@ -8,7 +8,7 @@ use Rattle.gsub.proofs.walk.Walk.remember.Goals as goal
 pub invariant_of-self : goal.invariant_of-self
 invariant_of-self c =
     let w = c.self.inside in
-    let s = c.args.start in
+    let s = c.args.start.byte in
     let seen = w.seen.items in
     let inside : s < length seen = omega arith in
     let read = c.index_mut.ensures.value ∙ get_or_default_zero seen s c.index_mut.result.now inside in
