@@ -22,6 +22,8 @@ pub(crate) struct Walk<'a> {
     lookups: u16,
     // For each byte of the table the kinds of structures that start there, a bit each.
     seen: Vec<u16>,
+    // How many structures were walked to their end, so that a test can show that one is not walked twice.
+    walked: u64,
 }
 
 impl<'a> Model for Walk<'a> {
@@ -45,6 +47,7 @@ impl<'a> Walk<'a> {
             table,
             lookups,
             seen: vec![in heap; 0u16; table.len()]?,
+            walked: 0,
         })
     }
 
@@ -86,8 +89,53 @@ impl<'a> Walk<'a> {
         requires { first_in (faults_of kind self.old.table self.old.lookups start.byte) ≡ None }
         ensures { self.new ≡ self.old }
     {
+        self.walked = self.walked.saturating_add(1);
         if start.byte < self.seen.len() {
             self.seen[start.byte] |= kind.bit();
         }
+    }
+}
+
+#[cfg(test)]
+mod tests {
+    use super::*;
+    use std::test::Fail;
+
+    fn push(table: &mut Vec<u8>, words: &[u16]) -> Result<(), Fail> {
+        for word in words {
+            for byte in word.to_be_bytes() {
+                table.push(byte)?;
+            }
+        }
+        Ok(())
+    }
+
+    // A count, and that many offsets to the same structure.
+    fn push_list(table: &mut Vec<u8>, count: u16, offset: u16) -> Result<(), Fail> {
+        push(table, &[count])?;
+        for _ in 0..count {
+            push(table, &[offset])?;
+        }
+        Ok(())
+    }
+
+    // As many lookups, subtables, rule sets and rules as 16 bits lead to, each time the same one: 2^60 walks to a rule, were each walked every time that an offset leads to it.
+    #[test]
+    fn shared_structures_are_walked_once(rt: HostRuntime) -> Result<(), Fail> {
+        let mut table = Vec::new(rt.alloc());
+        push(&mut table, &[1, 0, 0, 0, 10])?;
+        push_list(&mut table, 32_766, 65_534)?;
+        push(&mut table, &[5, 0])?;
+        push_list(&mut table, 32_764, 65_534)?;
+        push(&mut table, &[1, 65_528])?;
+        push_list(&mut table, 32_761, 65_534)?;
+        push(&mut table, &[1, 1, 7])?;
+        push_list(&mut table, 32_766, 65_534)?;
+        push(&mut table, &[1, 0])?;
+        let mut walk = Walk::new(rt.alloc(), table.as_slice(), 32_766)?;
+        assert!(rt; walk.check_lookups(Start { byte: 10 }).is_ok());
+        // The lookup, its subtable, the coverage and the rule set.
+        assert_eq!(rt; walk.walked, 4);
+        Ok(())
     }
 }
