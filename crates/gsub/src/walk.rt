@@ -20,7 +20,7 @@ pub(crate) struct Start {
 pub(crate) struct Walk<'a> {
     table: &'a [u8],
     lookups: u16,
-    // For each byte of the table the kinds of structures that start there, a bit each.
+    // For each byte of the table the kinds of structures that start there, a bit each: a set of the library would take many times the memory where a table leads to every byte.
     seen: Vec<u16>,
     // How many structures were walked to their end, so that a test can show that one is not walked twice.
     walked: u64,
