@@ -1,4 +1,5 @@
-ghost use Rattle.std.specs.Prelude.{◌≡◌, ◌≢◌, ◌+◌, ◌≤◌, IfOk, IfSome, IfNone, if◌then◌else◌, None, nat_le};
+ghost use Rattle.std.specs.Prelude.{◌≡◌, ◌≢◌, ◌⊎◌, ◌+◌, ◌≤◌, IfOk, IfSome, IfNone, None};
+ghost use Rattle.font.specs.Font.{class_number};
 ghost use Rattle.layout.specs.Bytes.{u16_at};
 ghost use Rattle.layout.specs.Classes.{class_faults, class_behind};
 ghost use Rattle.layout.specs.Faults.{first_in, in_turn, if_there};
@@ -9,6 +10,7 @@ ghost use Rattle.table_font.specs.TableFont.{table_faults};
 
 use crate::check::check_table;
 use crate::table::Gdef;
+use font::glyph_class::GlyphClass;
 use layout::bytes::{Field, Width};
 use layout::class::ClassDefinition;
 use layout::coverage::Coverage;
@@ -24,7 +26,7 @@ fn check_header(table: &[u8]) -> Result<(), StructureFault>
     match header.field::<u16>(2)? {
         0 => Ok(header.check_fields(4, Width::Two, 4)?),
         2 | 3 => Ok(header.check_fields(4, Width::Two, 5)?),
-        _ => header.require(false, Rule::Unknown, 2),
+        _ => Err(header.broken(Rule::Unknown, 2)),
     }
 }
 
@@ -74,8 +76,7 @@ impl<'a> MarkSets<'a> {
     {
         let structure = self.structure;
         structure.format(1)?;
-        let count = structure.field::<u16>(structure.start + 2)?;
-        structure.check_fields(structure.start + 4, Width::Four, u64::from(count))?;
+        let count = structure.counted(structure.start + 2, Width::Four)?;
         self.check_coverages(count)
     }
 
@@ -153,13 +154,6 @@ pub fn check_gdef(table: &[u8]) -> Result<(), StructureFault>
     check_followed(table)
 }
 
-// There are classes from 0 to 4: one above 4 reads as 0.
-fn known_class(class: u16) -> u8
-    ensures { result ≡ (if nat_le class 4 then class else 0) }
-{
-    if class <= 4 { class as u8 } else { 0 }
-}
-
 impl<'a> Gdef<'a> {
     // Takes a table that has no fault.
     pub fn read(table: &'a [u8]) -> Result<Gdef<'a>, TableFault>
@@ -172,7 +166,7 @@ impl<'a> Gdef<'a> {
 
     // The class of a glyph by the class definition that the offset at a byte of the header leads to; 0 where it leads nowhere.
     fn class_behind(&self, at: usize, glyph: u16) -> u16
-        requires { first_in (if_there (u16_at self.now.table.now at) 0 (class_faults self.now.table.now)) ≡ None }
+        requires { (at ≡ 4) ⊎ (at ≡ 10) }
         ensures { result ≡ class_behind self.now.table.now (u16_at self.now.table.now at) 0 glyph }
     {
         match classes_behind(self.table, at) {
@@ -182,10 +176,10 @@ impl<'a> Gdef<'a> {
     }
 
     // The class of a glyph.
-    pub fn class(&self, glyph: u16) -> u8
-        ensures { result ≡ glyph_class self.now.table.now glyph }
+    pub fn class(&self, glyph: u16) -> Option<GlyphClass>
+        ensures { class_number result ≡ glyph_class self.now.table.now glyph }
     {
-        known_class(self.class_behind(4, glyph))
+        GlyphClass::of(self.class_behind(4, glyph))
     }
 
     // The mark attachment class of a glyph.

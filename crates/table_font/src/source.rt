@@ -8,6 +8,7 @@ ghost use Rattle.table_font.specs.TableFont.{font_faults, font_of_tables};
 
 use crate::hmtx::advance_of;
 use crate::table::{Cmap, Gdef, Hmtx, TableFont};
+use font::glyph_class::GlyphClass;
 use font::source::{FontSource, MeasuredSource};
 use layout::fault::TableFault;
 
@@ -79,7 +80,7 @@ impl FontSource for TableFont<'_> {
         self.cmap.glyph(character)
     }
 
-    fn class(&self, glyph: u16) -> u8 {
+    fn class(&self, glyph: u16) -> Option<GlyphClass> {
         self.gdef.class(glyph)
     }
 
