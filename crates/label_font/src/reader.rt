@@ -107,8 +107,11 @@ impl Reader {
                 self.go_to(LabelField::Advance);
             }
             (LabelField::Advance, b'\n') => {
-                let mut row = self.row;
-                row.advance = self.field(0, 65_535)? as u16;
+                let advance = self.field(0, 65_535)? as u16;
+                let row = LabelRow {
+                    advance,
+                    ..self.row
+                };
                 self.row = LabelRow::BLANK;
                 self.lowest = u32::from(row.glyph) + 1;
                 self.line += 1;

@@ -1,6 +1,6 @@
-ghost use Rattle.std.specs.Prelude.{◌≡◌, ◌≢◌, ◌⊎◌, ◌+◌, ◌≤◌, IfOk, IfSome, IfNone, None};
+ghost use Rattle.std.specs.Prelude.{◌≡◌, ◌≢◌, ◌⊎◌, ◌+◌, ◌*◌, ◌≤◌, IfOk, IfSome, IfNone, None};
 ghost use Rattle.font.specs.Font.{class_number};
-ghost use Rattle.layout.specs.Bytes.{u16_at};
+ghost use Rattle.layout.specs.Bytes.{u16_at, u32_at};
 ghost use Rattle.layout.specs.Classes.{class_faults, class_behind};
 ghost use Rattle.layout.specs.Faults.{first_in, in_turn, if_there};
 ghost use Rattle.layout.specs.Told.{verdict, table_verdict};
@@ -40,6 +40,7 @@ fn classes_behind(table: &[u8], at: usize) -> Option<ClassDefinition<'_>>
     Some(ClassDefinition { structure })
 }
 
+// As with mark sets, a `match`: by `map_or` with a closure the proof is longer than the lines that it would save.
 fn check_classes(table: &[u8], at: usize) -> Result<(), StructureFault>
     ensures { verdict result ≡ first_in (if_there (u16_at table.now at) 0 (class_faults table.now)) }
 {
@@ -85,29 +86,37 @@ impl<'a> MarkSets<'a> {
         ensures { verdict result ≡ first_in (in_turn (λ k i. set_faults_at self.now.structure.table.now self.now.structure.start i) 4 0 (self.now.structure.start + 4) count) }
     {
         for k in 0..count {
-            self.check_set(self.structure.start + 4 + 4 * usize::from(k))?;
+            self.check_set(self.byte_of(k))?;
         }
         Ok(())
     }
 
-    // The coverage that the offset at a byte leads to.
+    // The byte at which the offset of set k stands.
+    fn byte_of(&self, k: u16) -> usize
+        ensures { result ≡ self.now.structure.start + 4 + 4 * k }
+    {
+        self.structure.start + 4 + 4 * usize::from(k)
+    }
+
+    // The set whose offset stands at a byte: a coverage, whose offset may not be 0.
     fn check_set(&self, at: usize) -> Result<(), StructureFault>
         ensures { verdict result ≡ first_in (set_faults_at self.now.structure.table.now self.now.structure.start at) }
     {
         let offset = u32::read(self.structure.table, at);
         self.structure.require(offset != 0, Rule::Unknown, at)?;
-        self.coverage(offset).check()
+        self.coverage(at).check()
     }
 
-    fn coverage(&self, offset: u32) -> Coverage<'a>
-        ensures { (result.structure.table.now ≡ self.now.structure.table.now) × (result.structure.start ≡ self.now.structure.start + offset) }
+    // The coverage that the offset at a byte leads to.
+    fn coverage(&self, at: usize) -> Coverage<'a>
+        ensures table { result.structure.table.now ≡ self.now.structure.table.now }
+        ensures start { result.structure.start ≡ self.now.structure.start + u32_at self.now.structure.table.now at }
     {
-        Coverage {
-            structure: Structure {
-                table: self.structure.table,
-                start: self.structure.start + offset as usize,
-            },
-        }
+        let table = self.structure.table;
+        // It fits, as 16 and 32 bits do; a conversion that can fail would add a case.
+        let start = self.structure.start + u32::read(table, at) as usize;
+        let structure = Structure { table, start };
+        Coverage { structure }
     }
 
     // Whether set k holds a glyph.
@@ -115,12 +124,7 @@ impl<'a> MarkSets<'a> {
         requires { first_in (mark_sets_faults self.now.structure.table.now self.now.structure.start) ≡ None }
         ensures { result ≡ set_holds self.now.structure.table.now self.now.structure.start k glyph }
     {
-        let sets = self.structure;
-        if k >= sets.u16_in(2) {
-            return false;
-        }
-        let offset = u32::read(sets.table, sets.start + 4 + 4 * usize::from(k));
-        self.coverage(offset).index_of(glyph).is_some()
+        k < self.structure.u16_in(2) && self.coverage(self.byte_of(k)).index_of(glyph).is_some()
     }
 }
 

@@ -6,7 +6,6 @@ ghost use Rattle.table_font.specs.Gdef.{glyph_class, mark_class_of, in_set};
 ghost use Rattle.table_font.specs.Hmtx.{advance_of};
 ghost use Rattle.table_font.specs.TableFont.{font_faults, font_of_tables};
 
-use crate::hmtx::advance_of;
 use crate::table::{Cmap, Gdef, Hmtx, TableFont};
 use font::glyph_class::GlyphClass;
 use font::source::{FontSource, MeasuredSource};
@@ -97,6 +96,6 @@ impl MeasuredSource for TableFont<'_> {
     ghost advances = { λ font. advance_of font.hmtx.table.now font.hmtx.metrics };
 
     fn advance(&self, glyph: u16) -> u16 {
-        advance_of(self.hmtx.table, self.hmtx.metrics, glyph)
+        self.hmtx.advance(glyph)
     }
 }
