@@ -1,5 +1,5 @@
-ghost use Rattle.std.specs.Prelude.{◌≡◌, ◌≤◌, [], None, length};
-ghost use Rattle.label_font.specs.LabelFont.{rows_of};
+ghost use Rattle.std.specs.Prelude.{◌≡◌, ◌≤◌, [], length};
+ghost use Rattle.label_font.specs.LabelFont.{no_row, rows_of};
 
 use font::glyph_class::GlyphClass;
 use font::table::{Blank, Table};
@@ -16,7 +16,7 @@ pub struct LabelRow {
 
 // What is not listed has these values.
 impl Blank for LabelRow {
-    ghost BLANK = { record { character = 0; glyph = 0; class = None; mark_class = 0; advance = 0 } };
+    ghost BLANK = { no_row };
 
     const BLANK: LabelRow = LabelRow {
         character: 0,
