@@ -1,4 +1,4 @@
-use Rattle.std.proofs.Common.{◌≡◌, ◌+◌, ◌*◌, Some, None, subst}
+use Rattle.std.proofs.Common.{◌≡◌, ◌+◌, Some, None, subst}
 use Rattle.std.proofs.lemmas.Result.{err_from_is_err_and}
 use Rattle.layout.specs.Faults.{first_in}
 use Rattle.layout.specs.Told.{told}
