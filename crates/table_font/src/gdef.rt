@@ -168,7 +168,7 @@ impl<'a> Gdef<'a> {
         Ok(Gdef { table })
     }
 
-    // The class of a glyph by the class definition that the offset at a byte of the header leads to; 0 where it leads nowhere.
+    // The class of a glyph by the class definition that the offset at a byte of the header leads to: at 4 for classes, at 10 for mark classes. It is 0 where the offset leads nowhere.
     fn class_behind(&self, at: usize, glyph: u16) -> u16
         requires { (at ≡ 4) ⊎ (at ≡ 10) }
         ensures { result ≡ class_behind self.now.table.now (u16_at self.now.table.now at) 0 glyph }
