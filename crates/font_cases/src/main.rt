@@ -6,6 +6,7 @@ ghost use Rattle.std.specs.Prelude.{◌≡◌};
 ghost use Rattle.font.specs.StandIn.{stand_in_font, pairs_of};
 ghost use Rattle.label_font.specs.LabelFont.{font_of_label, rows_of};
 
+use font::glyph_class::GlyphClass;
 use font::pairs::{Pair, PairTable};
 use font::refusal::Refusal;
 use font::source::{FontSource, MeasuredSource};
@@ -88,7 +89,7 @@ fn asked<S: MeasuredSource>(rt: &HostRuntime, source: &S, characters: &str) -> i
     for word in characters.split_whitespace() {
         let character = number_of(word);
         let glyph = source.glyph(character);
-        let class = source.class(glyph);
+        let class = source.class(glyph).map_or(0, GlyphClass::number);
         let mark_class = source.mark_class(glyph);
         let advance = source.advance(glyph);
         let in_set = source.in_mark_set(0, glyph);

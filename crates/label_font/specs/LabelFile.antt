@@ -6,9 +6,10 @@ use Rattle.label_font.specs.declared.table.LabelRow.{LabelRow}
 use Rattle.font.specs.declared.refusal.LabelField.{LabelField}
 use Rattle.font.specs.declared.refusal.LabelField.TheVariants.{Character, Glyph, Class, MarkClass, Advance}
 use Rattle.label_font.specs.LabelFont.{no_row}
+use Rattle.font.specs.Font.{class_of}
 use Rattle.font.specs.Told.{Told, gave, refused, field_number}
 
--- A place in a file: the rows above, what is known of this row (the rest is zero), and the field that comes next.
+-- A place in a file: the rows above, what is known of this row (the rest is blank), and the field that comes next.
 pub record Place : Type 0 where
   pub above : List LabelRow
   pub row : LabelRow
@@ -50,7 +51,7 @@ lowest Advance g = 0
 abbrev pub after : LabelField → List LabelRow → LabelRow → ℕ → Place
 after Character above row v = record { above = above; row = record { character = v; glyph = row.glyph; class = row.class; mark_class = row.mark_class; advance = row.advance }; next = Glyph }
 after Glyph above row v = record { above = above; row = record { character = row.character; glyph = v; class = row.class; mark_class = row.mark_class; advance = row.advance }; next = Class }
-after Class above row v = record { above = above; row = record { character = row.character; glyph = row.glyph; class = v; mark_class = row.mark_class; advance = row.advance }; next = MarkClass }
+after Class above row v = record { above = above; row = record { character = row.character; glyph = row.glyph; class = class_of v; mark_class = row.mark_class; advance = row.advance }; next = MarkClass }
 after MarkClass above row v = record { above = above; row = record { character = row.character; glyph = row.glyph; class = row.class; mark_class = v; advance = row.advance }; next = Advance }
 after Advance above row v = record { above = above ++ record { character = row.character; glyph = row.glyph; class = row.class; mark_class = row.mark_class; advance = v } ∷ []; row = no_row; next = Character }
 

@@ -2,12 +2,12 @@
 use Rattle.std.specs.Prelude.{ℕ, false, cond, List, Some, None, Option, ◌==◌, nat_eq}
 use Rattle.label_font.specs.declared.table.LabelRow.{LabelRow}
 use Rattle.label_font.specs.declared.table.LabelFont.{LabelFont}
-use Rattle.font.specs.Font.{Font}
+use Rattle.font.specs.Font.{Font, class_number}
 use Rattle.font.specs.Search.{first_that}
 
--- A row of zeros: what is not listed has these.
+-- A row of zeros and with no class: what is not listed has these.
 abbrev pub no_row : LabelRow
-no_row = record { character = 0; glyph = 0; class = 0; mark_class = 0; advance = 0 }
+no_row = record { character = 0; glyph = 0; class = None; mark_class = 0; advance = 0 }
 
 -- The rows that a font holds.
 abbrev pub rows_of : LabelFont → List LabelRow
@@ -28,7 +28,7 @@ row_of_glyph rows g = or_no_row (first_that (λ row. nat_eq row.glyph g) rows)
 abbrev pub font_of_label : List LabelRow → Font
 font_of_label rows = record {
   glyph = λ c. cond (c == 0) 0 (row_of_character rows c).glyph;
-  class = λ g. (row_of_glyph rows g).class;
+  class = λ g. class_number (row_of_glyph rows g).class;
   mark_class = λ g. (row_of_glyph rows g).mark_class;
   in_mark_set = λ k g. false;
 }

@@ -6,6 +6,7 @@ ghost use Rattle.font.specs.Told.{told_with};
 ghost use Rattle.label_font.specs.LabelReader.{finish_answer, fault_at, is_field, has_room, grown, stepped, step_answer};
 
 use crate::table::{LabelFont, LabelRow};
+use font::glyph_class::GlyphClass;
 use font::refusal::{LabelField, Refusal};
 use font::table::Blank;
 
@@ -77,7 +78,7 @@ impl Reader {
             return Err(self.fault());
         }
         self.count += 1;
-        self.value = self.value * 10 + digit as u32;
+        self.value = self.value * 10 + u32::from(digit);
         Ok(())
     }
 
@@ -98,7 +99,7 @@ impl Reader {
                 self.go_to(LabelField::Class);
             }
             (LabelField::Class, b'\t') => {
-                self.row.class = self.field(0, 4)? as u8;
+                self.row.class = GlyphClass::of(self.field(0, 4)? as u16);
                 self.go_to(LabelField::MarkClass);
             }
             (LabelField::MarkClass, b'\t') => {
@@ -106,10 +107,13 @@ impl Reader {
                 self.go_to(LabelField::Advance);
             }
             (LabelField::Advance, b'\n') => {
-                let mut row = self.row;
-                row.advance = self.field(0, 65_535)? as u16;
+                let advance = self.field(0, 65_535)? as u16;
+                let row = LabelRow {
+                    advance,
+                    ..self.row
+                };
                 self.row = LabelRow::BLANK;
-                self.lowest = row.glyph as u32 + 1;
+                self.lowest = u32::from(row.glyph) + 1;
                 self.line += 1;
                 self.go_to(LabelField::Character);
                 return Ok(Some(row));

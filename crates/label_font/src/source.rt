@@ -2,6 +2,7 @@ ghost use Rattle.std.specs.Prelude.{◌≡◌};
 ghost use Rattle.label_font.specs.LabelFont.{rows_of, row_of_character, row_of_glyph, font_of_label, label_advance};
 
 use crate::table::{LabelFont, LabelRow};
+use font::glyph_class::GlyphClass;
 use font::search::first_that;
 use font::source::{FontSource, MeasuredSource};
 use font::table::Blank;
@@ -32,7 +33,7 @@ impl FontSource for LabelFont {
         }
     }
 
-    fn class(&self, glyph: u16) -> u8 {
+    fn class(&self, glyph: u16) -> Option<GlyphClass> {
         self.row_of_glyph(glyph).class
     }
 

@@ -1,6 +1,7 @@
 ghost use Rattle.std.specs.Prelude.{◌≡◌, ◌≤◌, [], length};
-ghost use Rattle.label_font.specs.LabelFont.{rows_of};
+ghost use Rattle.label_font.specs.LabelFont.{no_row, rows_of};
 
+use font::glyph_class::GlyphClass;
 use font::table::{Blank, Table};
 
 // A line of a label file. A row with character 0 maps no character.
@@ -8,19 +9,19 @@ use font::table::{Blank, Table};
 pub struct LabelRow {
     pub character: u32,
     pub glyph: u16,
-    pub class: u8,
+    pub class: Option<GlyphClass>,
     pub mark_class: u16,
     pub advance: u16,
 }
 
 // What is not listed has these values.
 impl Blank for LabelRow {
-    ghost BLANK = { record { character = 0; glyph = 0; class = 0; mark_class = 0; advance = 0 } };
+    ghost BLANK = { no_row };
 
     const BLANK: LabelRow = LabelRow {
         character: 0,
         glyph: 0,
-        class: 0,
+        class: None,
         mark_class: 0,
         advance: 0,
     };

@@ -4,7 +4,7 @@ use Rattle.layout.specs.Bytes.{u16_at, u32_at}
 use Rattle.layout.specs.Classes.{class_faults, class_behind}
 use Rattle.layout.specs.Coverages.{coverage_faults, coverage_index}
 use Rattle.layout.specs.declared.fault.Fault.{Fault}
-use Rattle.layout.specs.Faults.{unless, extent, format_faults, in_turn, if_there}
+use Rattle.layout.specs.Faults.{unless, extent, counted_extent, format_faults, in_turn, if_there}
 
 -- The offset of the mark sets, which are there from minor version 2 on; 0 for none.
 abbrev pub mark_sets_offset : (table : List ℕ) → ℕ
@@ -17,7 +17,7 @@ set_faults_at t s i = unless (not (u32_at t i == 0)) 2 s i ++ coverage_faults t 
 -- The faults of the mark sets at s: format 1, count, and the coverages.
 abbrev pub mark_sets_faults : (table : List ℕ) → (s : ℕ) → List Fault
 mark_sets_faults t s =
-    format_faults t s 1 ++ (extent t s (s + 2) 2 1 ++ (extent t s (s + 4) 4 (u16_at t (s + 2)) ++ in_turn (λ k i. set_faults_at t s i) 4 0 (s + 4) (u16_at t (s + 2))))
+    format_faults t s 1 ++ (counted_extent t s (s + 2) 4 ++ in_turn (λ k i. set_faults_at t s i) 4 0 (s + 4) (u16_at t (s + 2)))
 
 -- The faults of the header: major version 1; minor version 0, 2 or 3; four offsets, and from minor version 2 on a fifth.
 abbrev pub header_faults : (table : List ℕ) → List Fault

@@ -1,5 +1,6 @@
-ghost use Rattle.std.specs.Prelude.{◌≡◌, ◌≢◌, ◌+◌, ◌≤◌, IfOk, IfSome, IfNone, if◌then◌else◌, None, nat_le};
-ghost use Rattle.layout.specs.Bytes.{u16_at};
+ghost use Rattle.std.specs.Prelude.{◌≡◌, ◌≢◌, ◌⊎◌, ◌+◌, ◌*◌, ◌≤◌, IfOk, IfSome, IfNone, None};
+ghost use Rattle.font.specs.Font.{class_number};
+ghost use Rattle.layout.specs.Bytes.{u16_at, u32_at};
 ghost use Rattle.layout.specs.Classes.{class_faults, class_behind};
 ghost use Rattle.layout.specs.Faults.{first_in, in_turn, if_there};
 ghost use Rattle.layout.specs.Told.{verdict, table_verdict};
@@ -9,6 +10,7 @@ ghost use Rattle.table_font.specs.TableFont.{table_faults};
 
 use crate::check::check_table;
 use crate::table::Gdef;
+use font::glyph_class::GlyphClass;
 use layout::bytes::{Field, Width};
 use layout::class::ClassDefinition;
 use layout::coverage::Coverage;
@@ -24,7 +26,7 @@ fn check_header(table: &[u8]) -> Result<(), StructureFault>
     match header.field::<u16>(2)? {
         0 => Ok(header.check_fields(4, Width::Two, 4)?),
         2 | 3 => Ok(header.check_fields(4, Width::Two, 5)?),
-        _ => header.require(false, Rule::Unknown, 2),
+        _ => Err(header.broken(Rule::Unknown, 2)),
     }
 }
 
@@ -38,6 +40,7 @@ fn classes_behind(table: &[u8], at: usize) -> Option<ClassDefinition<'_>>
     Some(ClassDefinition { structure })
 }
 
+// As with mark sets, a `match`: by `map_or` with a closure the proof is longer than the lines that it would save.
 fn check_classes(table: &[u8], at: usize) -> Result<(), StructureFault>
     ensures { verdict result ≡ first_in (if_there (u16_at table.now at) 0 (class_faults table.now)) }
 {
@@ -74,8 +77,7 @@ impl<'a> MarkSets<'a> {
     {
         let structure = self.structure;
         structure.format(1)?;
-        let count = structure.field::<u16>(structure.start + 2)?;
-        structure.check_fields(structure.start + 4, Width::Four, u64::from(count))?;
+        let count = structure.counted(structure.start + 2, Width::Four)?;
         self.check_coverages(count)
     }
 
@@ -84,29 +86,37 @@ impl<'a> MarkSets<'a> {
         ensures { verdict result ≡ first_in (in_turn (λ k i. set_faults_at self.now.structure.table.now self.now.structure.start i) 4 0 (self.now.structure.start + 4) count) }
     {
         for k in 0..count {
-            self.check_set(self.structure.start + 4 + 4 * usize::from(k))?;
+            self.check_set(self.byte_of(k))?;
         }
         Ok(())
     }
 
-    // The coverage that the offset at a byte leads to.
+    // The byte at which the offset of set k stands.
+    fn byte_of(&self, k: u16) -> usize
+        ensures { result ≡ self.now.structure.start + 4 + 4 * k }
+    {
+        self.structure.start + 4 + 4 * usize::from(k)
+    }
+
+    // The set whose offset stands at a byte: a coverage, whose offset may not be 0.
     fn check_set(&self, at: usize) -> Result<(), StructureFault>
         ensures { verdict result ≡ first_in (set_faults_at self.now.structure.table.now self.now.structure.start at) }
     {
         let offset = u32::read(self.structure.table, at);
         self.structure.require(offset != 0, Rule::Unknown, at)?;
-        self.coverage(offset).check()
+        self.coverage(at).check()
     }
 
-    fn coverage(&self, offset: u32) -> Coverage<'a>
-        ensures { (result.structure.table.now ≡ self.now.structure.table.now) × (result.structure.start ≡ self.now.structure.start + offset) }
+    // The coverage that the offset at a byte leads to.
+    fn coverage(&self, at: usize) -> Coverage<'a>
+        ensures table { result.structure.table.now ≡ self.now.structure.table.now }
+        ensures start { result.structure.start ≡ self.now.structure.start + u32_at self.now.structure.table.now at }
     {
-        Coverage {
-            structure: Structure {
-                table: self.structure.table,
-                start: self.structure.start + offset as usize,
-            },
-        }
+        let table = self.structure.table;
+        // It fits, as 16 and 32 bits do; a conversion that can fail would add a case.
+        let start = self.structure.start + u32::read(table, at) as usize;
+        let structure = Structure { table, start };
+        Coverage { structure }
     }
 
     // Whether set k holds a glyph.
@@ -114,12 +124,7 @@ impl<'a> MarkSets<'a> {
         requires { first_in (mark_sets_faults self.now.structure.table.now self.now.structure.start) ≡ None }
         ensures { result ≡ set_holds self.now.structure.table.now self.now.structure.start k glyph }
     {
-        let sets = self.structure;
-        if k >= sets.u16_in(2) {
-            return false;
-        }
-        let offset = u32::read(sets.table, sets.start + 4 + 4 * usize::from(k));
-        self.coverage(offset).index_of(glyph).is_some()
+        k < self.structure.u16_in(2) && self.coverage(self.byte_of(k)).index_of(glyph).is_some()
     }
 }
 
@@ -153,13 +158,6 @@ pub fn check_gdef(table: &[u8]) -> Result<(), StructureFault>
     check_followed(table)
 }
 
-// There are classes from 0 to 4: one above 4 reads as 0.
-fn known_class(class: u16) -> u8
-    ensures { result ≡ (if nat_le class 4 then class else 0) }
-{
-    if class <= 4 { class as u8 } else { 0 }
-}
-
 impl<'a> Gdef<'a> {
     // Takes a table that has no fault.
     pub fn read(table: &'a [u8]) -> Result<Gdef<'a>, TableFault>
@@ -170,9 +168,9 @@ impl<'a> Gdef<'a> {
         Ok(Gdef { table })
     }
 
-    // The class of a glyph by the class definition that the offset at a byte of the header leads to; 0 where it leads nowhere.
+    // The class of a glyph by the class definition that the offset at a byte of the header leads to: at 4 for classes, at 10 for mark classes. It is 0 where the offset leads nowhere.
     fn class_behind(&self, at: usize, glyph: u16) -> u16
-        requires { first_in (if_there (u16_at self.now.table.now at) 0 (class_faults self.now.table.now)) ≡ None }
+        requires { (at ≡ 4) ⊎ (at ≡ 10) }
         ensures { result ≡ class_behind self.now.table.now (u16_at self.now.table.now at) 0 glyph }
     {
         match classes_behind(self.table, at) {
@@ -182,10 +180,10 @@ impl<'a> Gdef<'a> {
     }
 
     // The class of a glyph.
-    pub fn class(&self, glyph: u16) -> u8
-        ensures { result ≡ glyph_class self.now.table.now glyph }
+    pub fn class(&self, glyph: u16) -> Option<GlyphClass>
+        ensures { class_number result ≡ glyph_class self.now.table.now glyph }
     {
-        known_class(self.class_behind(4, glyph))
+        GlyphClass::of(self.class_behind(4, glyph))
     }
 
     // The mark attachment class of a glyph.

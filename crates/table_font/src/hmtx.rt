@@ -38,4 +38,11 @@ impl<'a> Hmtx<'a> {
         check_table(TableName::Hmtx, table, |table| check_hmtx(table, metrics))?;
         Ok(Hmtx { table, metrics })
     }
+
+    // The advance of a glyph.
+    pub fn advance(&self, glyph: u16) -> u16
+        ensures { result ≡ advance_of self.now.table.now self.now.metrics glyph }
+    {
+        advance_of(self.table, self.metrics, glyph)
+    }
 }

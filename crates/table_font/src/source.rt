@@ -6,8 +6,8 @@ ghost use Rattle.table_font.specs.Gdef.{glyph_class, mark_class_of, in_set};
 ghost use Rattle.table_font.specs.Hmtx.{advance_of};
 ghost use Rattle.table_font.specs.TableFont.{font_faults, font_of_tables};
 
-use crate::hmtx::advance_of;
 use crate::table::{Cmap, Gdef, Hmtx, TableFont};
+use font::glyph_class::GlyphClass;
 use font::source::{FontSource, MeasuredSource};
 use layout::fault::TableFault;
 
@@ -79,7 +79,7 @@ impl FontSource for TableFont<'_> {
         self.cmap.glyph(character)
     }
 
-    fn class(&self, glyph: u16) -> u8 {
+    fn class(&self, glyph: u16) -> Option<GlyphClass> {
         self.gdef.class(glyph)
     }
 
@@ -96,6 +96,6 @@ impl MeasuredSource for TableFont<'_> {
     ghost advances = { λ font. advance_of font.hmtx.table.now font.hmtx.metrics };
 
     fn advance(&self, glyph: u16) -> u16 {
-        advance_of(self.hmtx.table, self.hmtx.metrics, glyph)
+        self.hmtx.advance(glyph)
     }
 }

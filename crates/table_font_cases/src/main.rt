@@ -4,6 +4,7 @@
 // What it shares with the other programs of cases stays in each: as a crate it would be public functions about how a test is written.
 #![tactic(auto)]
 
+use font::glyph_class::GlyphClass;
 use font::source::{FontSource, MeasuredSource};
 use std::alloc::{AllocError, Global};
 use std::io;
@@ -47,7 +48,7 @@ fn print_answer(rt: &HostRuntime, font: &TableFont<'_>, question: &str) -> io::R
     // A question is a word, so what it asks is found by its text.
     let answer = match kind {
         "glyph" => font.glyph(of.parse::<u32>().unwrap_or(0)),
-        "class" => font.class(number(of)) as u16,
+        "class" => u16::from(font.class(number(of)).map_or(0, GlyphClass::number)),
         "mark" => font.mark_class(number(of)),
         "advance" => font.advance(number(of)),
         _ => return print_set(rt, font, of),

@@ -6,15 +6,17 @@ use Rattle.layout.specs.Faults.{first_in}
 use Rattle.table_font.proofs.Sets.{set-none}
 use Rattle.table_font.proofs.gdef.MarkSets.holds.Goals as goal
 
-pub returns : goal.returns
-returns c =
+pub returns-then-k-u16_in : goal.returns-then-k-u16_in
+returns-then-k-u16_in c =
     let t = c.args.self.now.structure.table.now in
     let s = c.args.self.now.structure.start in
     let k = c.args.k in
-    let e = c.read-offset.ensures ∙ ap (λ u. u32_at t (s + 4 + 4 * u)) c.from.ensures in
+    let found = coverage_index t (s + u32_at t (s + 4 + 4 * k)) c.args.glyph in
+    let set = c.coverage.result.structure in
+    let table = c.coverage.ensures.table in
+    let start : set.start ≡ s + u32_at t (s + 4 + 4 * k) = c.coverage.ensures.start ∙ ap (λ u. s + u32_at t u) c.byte_of.ensures in
     let below : k < u16_at t (s + 2) = omega arith in
     let l : ltb k (u16_at t (s + 2)) ≡ true = grind (arith, nat_tests) in
-    let is = c.coverage.ensures in
-    let none : first_in (coverage_faults c.coverage.result.structure.table.now c.coverage.result.structure.start) ≡ None = rw (is.0, is.1, e) (set-none t s k c.requires below) in
-    let found : c.index_of.result ≡ coverage_index t (s + u32_at t (s + 4 + 4 * k)) c.args.glyph = c.index_of.ensures.accepted none ∙ rw (is.0, is.1, e) refl in
-    c.is_some.ensures ∙ ap is_some found ∙ ap (λ b. b && is_some (coverage_index t (s + u32_at t (s + 4 + 4 * k)) c.args.glyph)) (sym l)
+    let none : first_in (coverage_faults set.table.now set.start) ≡ None = rw (table, start) (set-none t s k c.requires below) in
+    let index : c.index_of.result ≡ found = c.index_of.ensures.accepted none ∙ rw (table, start) refl in
+    c.is_some.ensures ∙ ap is_some index ∙ ap (λ b. b && is_some found) (sym l)
