@@ -10,7 +10,7 @@ ghost use Rattle.mitqorad.specs.PairLine.{IsNumber, IsPairLine, pair_in};
 use crate::failure::Failure;
 use crate::input::Input;
 use font::pairs::{Pair, PairTable};
-use std::alloc::{AllocError, Global};
+use std::alloc::Global;
 
 // What was read, and where, which a message about it tells.
 #[derive(Drop)]
@@ -42,9 +42,12 @@ impl<'a> Content<'a> {
     }
 
     // A line that is not what it should be.
-    fn bad_line(&self, heap: Global, line: usize, should_be: &str) -> Result<Failure, AllocError> {
+    fn bad_line(&self, heap: Global, line: usize, should_be: &str) -> Failure {
         let input = self.input;
-        Ok(Failure::Sentence(format!(in heap; "line {line} of {input} is not {should_be}")?))
+        match format!(in heap; "line {line} of {input} is not {should_be}") {
+            Ok(sentence) => Failure::Sentence(sentence),
+            Err(error) => Failure::from(error),
+        }
     }
 
     // The characters of its text.
@@ -67,7 +70,7 @@ impl<'a> Content<'a> {
         // A loop, since a bad line ends it with an error that itself needs memory.
         for (index, line) in text.lines().enumerate() {
             let Some(character) = number_of(line) else {
-                return Err(self.bad_line(heap, index + 1, "a character's number")?);
+                return Err(self.bad_line(heap, index + 1, "a character's number"));
             };
             all.push(character)?;
         }
@@ -85,11 +88,8 @@ impl<'a> Content<'a> {
         // A loop for the same reason, and since a pair too many is refused.
         for (index, line) in text.lines().enumerate() {
             let Some(pair) = pair_of(line) else {
-                return Err(self.bad_line(
-                    heap,
-                    index + 1,
-                    "two characters' numbers, parted by a tab",
-                )?);
+                let should_be = "two characters' numbers, parted by a tab";
+                return Err(self.bad_line(heap, index + 1, should_be));
             };
             table.add(pair)?;
         }

@@ -113,10 +113,7 @@ impl fmt::Display for Failure {
                 let meaning = fault_meaning(fault);
                 write!(f, "{report}: {meaning}")
             }
-            Failure::Sentence(sentence) => {
-                let sentence = sentence.as_str();
-                write!(f, "mitqorad: {sentence}")
-            }
+            Failure::Sentence(sentence) => write!(f, "mitqorad: {sentence}"),
             Failure::Memory => write!(f, "mitqorad: out of memory"),
             Failure::Output(error) => write!(f, "mitqorad: cannot write: {error}"),
         }

@@ -70,12 +70,8 @@ fn value<'a>(next: Option<&'a String>, what: &'static str) -> Result<&'a str, Us
     Ok(next.ok_or(UsageError::NoValue(what))?.as_str())
 }
 
-fn file<'a>(next: Option<&'a String>) -> Result<Input<'a>, UsageError<'a>> {
-    Ok(Input::from(value(next, "file")?))
-}
-
-fn table<'a>(next: Option<&'a String>) -> Result<Input<'a>, UsageError<'a>> {
-    Ok(Input::from(value(next, "value")?))
+fn input<'a>(next: Option<&'a String>, what: &'static str) -> Result<Input<'a>, UsageError<'a>> {
+    Ok(Input::from(value(next, what)?))
 }
 
 impl<'a> GlyphsOptions<'a> {
@@ -87,12 +83,12 @@ impl<'a> GlyphsOptions<'a> {
         let mut words = words.iter();
         while let Some(word) = words.next() {
             match word.as_str() {
-                "--label" => font.label = Some(file(words.next())?),
-                "--cmap" => font.cmap = Some(file(words.next())?),
-                "--hmtx" => font.hmtx = Some(file(words.next())?),
+                "--label" => font.label = Some(input(words.next(), "file")?),
+                "--cmap" => font.cmap = Some(input(words.next(), "file")?),
+                "--hmtx" => font.hmtx = Some(input(words.next(), "file")?),
                 "--metrics" => font.metrics = Some(value(words.next(), "number")?),
-                "--gdef" => font.gdef = Some(file(words.next())?),
-                "--stand-in" => stand_in = Some(file(words.next())?),
+                "--gdef" => font.gdef = Some(input(words.next(), "file")?),
+                "--stand-in" => stand_in = Some(input(words.next(), "file")?),
                 "--codes" => codes = true,
                 word => match Input::from(word) {
                     Input::File(name) if name.starts_with('-') => {
@@ -127,8 +123,8 @@ impl<'a> CheckOptions<'a> {
         let mut words = words.iter();
         while let Some(word) = words.next() {
             match word.as_str() {
-                "--gsub" => gsub = Some(table(words.next())?),
-                "--gdef" => gdef = Some(table(words.next())?),
+                "--gsub" => gsub = Some(input(words.next(), "value")?),
+                "--gdef" => gdef = Some(input(words.next(), "value")?),
                 word => return Err(UsageError::NotOfCheck(word)),
             }
         }
