@@ -85,7 +85,8 @@ impl<'a> Content<'a> {
     {
         let text = self.text(heap)?;
         let mut table = PairTable::new();
-        // A loop for the same reason, and since a pair too many is refused.
+        // A loop for the same reason, and since a pair too many is refused. To share it with `numbers`
+        // would take two closures: what reads a line, and what keeps what it says.
         for (index, line) in text.lines().enumerate() {
             let Some(pair) = pair_of(line) else {
                 let should_be = "two characters' numbers, parted by a tab";
