@@ -1,1 +1,2 @@
+pub mod Content
 pub mod PairLine

@@ -1,7 +1,7 @@
 use font::refusal::{LabelField, Refusal};
 use gsub::check::CheckError;
 use layout::fault::{Rule, StructureFault, TableFault};
-use std::alloc::{AllocError, AllocFailed, Global};
+use std::alloc::{AllocError, AllocFailed};
 use std::{fmt, io};
 
 // Why the program ends with status 1: a line for standard error.
@@ -54,11 +54,6 @@ impl From<io::Error> for Failure {
     fn from(error: io::Error) -> Failure {
         Failure::Output(error)
     }
-}
-
-// A call whose words are off.
-pub fn sentence<T>(heap: Global, what: &str, word: &str) -> Result<T, Failure> {
-    Err(Failure::Sentence(format!(in heap; "{what}{word} (mitqorad --help says more)")?))
 }
 
 // The program's own words for a refusal and a fault; what the library prints of them are numbers.
@@ -118,10 +113,7 @@ impl fmt::Display for Failure {
                 let meaning = fault_meaning(fault);
                 write!(f, "{report}: {meaning}")
             }
-            Failure::Sentence(sentence) => {
-                let sentence = sentence.as_str();
-                write!(f, "mitqorad: {sentence}")
-            }
+            Failure::Sentence(sentence) => write!(f, "mitqorad: {sentence}"),
             Failure::Memory => write!(f, "mitqorad: out of memory"),
             Failure::Output(error) => write!(f, "mitqorad: cannot write: {error}"),
         }

@@ -2,35 +2,35 @@ ghost use Rattle.std.specs.Prelude.{◌<◌, ◌^◌};
 ghost use Rattle.std.specs.Option.{SomeIff};
 ghost use Rattle.std.specs.Str.Parse.{IsNumeral, digits_value};
 
-use crate::failure::{Failure, sentence};
-use crate::input::number_of;
-use std::alloc::Global;
+use crate::content::number_of;
+use crate::input::Input;
+use crate::usage::UsageError;
 
-// The files of a font. A file is a path, or `-` for standard input.
+// The files of a font.
 #[derive(Clone, Copy)]
 pub enum FontFiles<'a> {
-    Label(&'a str),
+    Label(Input<'a>),
     Tables(TableFiles<'a>),
 }
 
 // The files of a font's tables.
 #[derive(Clone, Copy)]
 pub struct TableFiles<'a> {
-    pub cmap: &'a str,
-    pub hmtx: &'a str,
+    pub cmap: Input<'a>,
+    pub hmtx: Input<'a>,
     // How many metrics hmtx has.
     pub metrics: u16,
-    pub gdef: Option<&'a str>,
+    pub gdef: Option<Input<'a>>,
 }
 
 // The options of a font that a call gives, each with its value.
 #[derive(Clone, Copy, Default)]
 pub struct FontOptions<'a> {
-    pub label: Option<&'a str>,
-    pub cmap: Option<&'a str>,
-    pub hmtx: Option<&'a str>,
+    pub label: Option<Input<'a>>,
+    pub cmap: Option<Input<'a>>,
+    pub hmtx: Option<Input<'a>>,
     pub metrics: Option<&'a str>,
-    pub gdef: Option<&'a str>,
+    pub gdef: Option<Input<'a>>,
 }
 
 // How many metrics a word writes.
@@ -42,14 +42,13 @@ fn metrics_of(word: &str) -> Option<u16>
 
 impl<'a> FontOptions<'a> {
     // The one font that the options name.
-    pub fn files(&self, heap: Global) -> Result<FontFiles<'a>, Failure> {
-        if let Some(label) = self.label {
-            return self.label_file(heap, label);
+    pub fn files(&self) -> Result<FontFiles<'a>, UsageError<'a>> {
+        match (self.label, self.cmap) {
+            (Some(label), None) => self.label_file(label),
+            (None, Some(cmap)) => self.table_files(cmap),
+            (Some(_), Some(_)) => Err(UsageError::TwoFonts),
+            (None, None) => Err(UsageError::NoFont),
         }
-        if let Some(cmap) = self.cmap {
-            return self.table_files(heap, cmap);
-        }
-        sentence(heap, "glyphs needs --label FILE", "")
     }
 
     // An option of those given that no label font takes.
@@ -65,34 +64,20 @@ impl<'a> FontOptions<'a> {
         }
     }
 
-    fn label_file(&self, heap: Global, label: &'a str) -> Result<FontFiles<'a>, Failure> {
-        if self.cmap.is_some() {
-            return sentence(heap, "a font is --label or --cmap, and not both", "");
+    fn label_file(&self, label: Input<'a>) -> Result<FontFiles<'a>, UsageError<'a>> {
+        match self.beside_label() {
+            Some(option) => Err(UsageError::BesideLabel(option)),
+            None => Ok(FontFiles::Label(label)),
         }
-        if let Some(option) = self.beside_label() {
-            return sentence(heap, "--label is a whole font, and takes no ", option);
-        }
-        Ok(FontFiles::Label(label))
     }
 
-    fn table_files(&self, heap: Global, cmap: &'a str) -> Result<FontFiles<'a>, Failure> {
-        let Some(hmtx) = self.hmtx else {
-            return sentence(heap, "--cmap needs --hmtx FILE", "");
-        };
-        let Some(metrics) = self.metrics else {
-            return sentence(heap, "--cmap needs --metrics N", "");
-        };
-        let Some(metrics) = metrics_of(metrics) else {
-            return sentence(
-                heap,
-                "--metrics takes a number from 0 to 65535, and not ",
-                metrics,
-            );
-        };
+    fn table_files(&self, cmap: Input<'a>) -> Result<FontFiles<'a>, UsageError<'a>> {
+        let hmtx = self.hmtx.ok_or(UsageError::NoHmtx)?;
+        let metrics = self.metrics.ok_or(UsageError::NoMetrics)?;
         Ok(FontFiles::Tables(TableFiles {
             cmap,
             hmtx,
-            metrics,
+            metrics: metrics_of(metrics).ok_or(UsageError::BadMetrics(metrics))?,
             gdef: self.gdef,
         }))
     }

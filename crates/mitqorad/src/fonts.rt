@@ -1,11 +1,11 @@
 use crate::failure::Failure;
 use crate::font_options::TableFiles;
-use crate::input::bytes_of;
+use crate::input::Input;
 use label_font::table::LabelFont;
 use table_font::table::TableFont;
 
-pub fn read_label(rt: &HostRuntime, path: &str) -> Result<LabelFont, Failure> {
-    let bytes = bytes_of(rt, path)?;
+pub fn read_label(rt: &HostRuntime, input: Input) -> Result<LabelFont, Failure> {
+    let bytes = input.bytes(rt)?;
     let mut font = LabelFont::new();
     font.read(bytes.as_slice())?;
     Ok(font)
@@ -24,12 +24,12 @@ pub struct TableBytes {
 impl TableBytes {
     pub fn read(rt: &HostRuntime, files: TableFiles) -> Result<TableBytes, Failure> {
         Ok(TableBytes {
-            cmap: bytes_of(rt, files.cmap)?,
+            cmap: files.cmap.bytes(rt)?,
             gdef: match files.gdef {
-                Some(path) => bytes_of(rt, path)?,
+                Some(input) => input.bytes(rt)?,
                 None => Vec::new(rt.alloc()),
             },
-            hmtx: bytes_of(rt, files.hmtx)?,
+            hmtx: files.hmtx.bytes(rt)?,
             metrics: files.metrics,
         })
     }

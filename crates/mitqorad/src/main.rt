@@ -1,16 +1,20 @@
 // Characters to glyphs, and the check of tables, from the command line.
 #![tactic(auto)]
 
+mod content;
 mod failure;
 mod font_options;
 mod fonts;
 mod input;
 mod options;
+mod usage;
 
-use crate::failure::{Failure, sentence};
+use crate::content::Content;
+use crate::failure::Failure;
 use crate::font_options::FontFiles;
 use crate::fonts::{TableBytes, read_label};
-use crate::options::{CheckOptions, GlyphsOptions, Text};
+use crate::input::Input;
+use crate::options::{CheckOptions, Command, GlyphsOptions, Text};
 use font::pairs::PairTable;
 use font::source::{MeasuredSource, run_width};
 use font::stand_in::StandIn;
@@ -45,24 +49,17 @@ its number, and the exit status is then 1.
 A fault of a table is told in the same way.
 ";
 
-fn stand_ins(rt: &HostRuntime, path: Option<&str>) -> Result<PairTable, Failure> {
-    let Some(path) = path else {
-        return Ok(PairTable::new());
-    };
-    let bytes = input::bytes_of(rt, path)?;
-    let text = input::text_of(rt.alloc(), path, bytes.as_slice())?;
-    input::pairs_of(rt.alloc(), path, text)
+fn stand_ins(rt: &HostRuntime, input: Option<Input>) -> Result<PairTable, Failure> {
+    match input {
+        Some(input) => Content::read(rt, input)?.pairs(rt.alloc()),
+        None => Ok(PairTable::new()),
+    }
 }
 
 fn text_characters(rt: &HostRuntime, text: Text) -> Result<Vec<u32>, Failure> {
-    let path = match text {
-        Text::Utf8(path) | Text::Codes(path) => path,
-    };
-    let bytes = input::bytes_of(rt, path)?;
-    let content = input::text_of(rt.alloc(), path, bytes.as_slice())?;
     match text {
-        Text::Utf8(_) => input::characters(rt.alloc(), content),
-        Text::Codes(_) => input::numbered(rt.alloc(), path, content),
+        Text::Utf8(input) => Content::read(rt, input)?.characters(rt.alloc()),
+        Text::Codes(input) => Content::read(rt, input)?.numbers(rt.alloc()),
     }
 }
 
@@ -92,7 +89,7 @@ fn glyphs_over<S: MeasuredSource + Drop>(
 
 fn glyphs_command(rt: &HostRuntime, asked: GlyphsOptions) -> Result<(), Failure> {
     match asked.font {
-        FontFiles::Label(path) => glyphs_over(rt, read_label(rt, path)?, asked),
+        FontFiles::Label(input) => glyphs_over(rt, read_label(rt, input)?, asked),
         FontFiles::Tables(files) => {
             let tables = TableBytes::read(rt, files)?;
             glyphs_over(rt, tables.font()?, asked)
@@ -101,10 +98,10 @@ fn glyphs_command(rt: &HostRuntime, asked: GlyphsOptions) -> Result<(), Failure>
 }
 
 fn check_command(rt: &HostRuntime, asked: CheckOptions) -> Result<(), Failure> {
-    let table = input::bytes_of(rt, asked.gsub)?;
+    let table = asked.gsub.bytes(rt)?;
     let gsub = Gsub::checked(rt.alloc(), table.as_slice())?;
-    if let Some(path) = asked.gdef {
-        let gdef = input::bytes_of(rt, path)?;
+    if let Some(input) = asked.gdef {
+        let gdef = input.bytes(rt)?;
         Gdef::read(gdef.as_slice())?;
     }
     let lookups = gsub.lookup_count();
@@ -115,26 +112,23 @@ fn check_command(rt: &HostRuntime, asked: CheckOptions) -> Result<(), Failure> {
     Ok(())
 }
 
-fn asks_help(words: &[String]) -> bool {
-    words
-        .iter()
-        .any(|word| matches!(word.as_str(), "--help" | "-h"))
+fn obey(rt: &HostRuntime, command: Command) -> Result<(), Failure> {
+    match command {
+        Command::Help => Ok(rt.print(HELP)?),
+        Command::Version => Ok(println!(rt; "mitqorad 0.1.0")?),
+        Command::Glyphs(asked) => glyphs_command(rt, asked),
+        Command::Check(asked) => check_command(rt, asked),
+    }
 }
 
 fn run(rt: &HostRuntime) -> Result<(), Failure> {
     let heap = rt.alloc();
     let words: Vec<String> = env::args(rt)?.skip(1).collect(heap)?;
-    if asks_help(words.as_slice()) {
-        return Ok(rt.print(HELP)?);
-    }
-    match words.as_slice() {
-        [command, rest @ ..] => match command.as_str() {
-            "--version" | "-V" => Ok(println!(rt; "mitqorad 0.1.0")?),
-            "glyphs" => glyphs_command(rt, options::glyphs_options(heap, rest)?),
-            "check" => check_command(rt, options::check_options(heap, rest)?),
-            other => sentence(heap, "unknown command ", other),
-        },
-        [] => sentence(heap, "no command", ""),
+    match Command::read(words.as_slice()) {
+        Ok(command) => obey(rt, command),
+        Err(error) => Err(Failure::Sentence(format!(in heap;
+            "{error} (mitqorad --help says more)"
+        )?)),
     }
 }
 

@@ -1,109 +1,139 @@
-use crate::failure::{Failure, sentence};
 use crate::font_options::{FontFiles, FontOptions};
-use std::alloc::Global;
+use crate::input::Input;
+use crate::usage::UsageError;
 
-// What `mitqorad glyphs` is asked for. A file is a path, or `-` for standard input.
+// What a call asks for.
+#[derive(Clone, Copy)]
+pub enum Command<'a> {
+    Help,
+    Version,
+    Glyphs(GlyphsOptions<'a>),
+    Check(CheckOptions<'a>),
+}
+
+// What `mitqorad glyphs` is asked for.
 #[derive(Clone, Copy)]
 pub struct GlyphsOptions<'a> {
     pub font: FontFiles<'a>,
-    pub stand_in: Option<&'a str>,
+    pub stand_in: Option<Input<'a>>,
     pub text: Text<'a>,
 }
 
-// A file of text: UTF-8, or character numbers, one a line.
+// A text: UTF-8, or character numbers, one a line.
 #[derive(Clone, Copy)]
 pub enum Text<'a> {
-    Utf8(&'a str),
-    Codes(&'a str),
+    Utf8(Input<'a>),
+    Codes(Input<'a>),
 }
 
 // What `mitqorad check` is asked for.
 #[derive(Clone, Copy)]
 pub struct CheckOptions<'a> {
-    pub gsub: &'a str,
-    pub gdef: Option<&'a str>,
+    pub gsub: Input<'a>,
+    pub gdef: Option<Input<'a>>,
+}
+
+impl<'a> Command<'a> {
+    pub fn read(words: &'a [String]) -> Result<Command<'a>, UsageError<'a>> {
+        if asks_help(words) {
+            return Ok(Command::Help);
+        }
+        match words {
+            [command, rest @ ..] => match command.as_str() {
+                "--version" | "-V" => Ok(Command::Version),
+                "glyphs" => Ok(Command::Glyphs(GlyphsOptions::read(rest)?)),
+                "check" => Ok(Command::Check(CheckOptions::read(rest)?)),
+                other => Err(UsageError::UnknownCommand(other)),
+            },
+            [] => Err(UsageError::NoCommand),
+        }
+    }
+}
+
+fn asks_help(words: &[String]) -> bool {
+    words
+        .iter()
+        .any(|word| matches!(word.as_str(), "--help" | "-h"))
 }
 
 // Standard input can serve as one file only.
-fn wants_stdin_twice(paths: &[Option<&str>]) -> bool {
-    paths.iter().filter(|path| **path == Some("-")).count() > 1
+fn wants_stdin_twice(inputs: &[Option<Input>]) -> bool {
+    inputs
+        .iter()
+        .filter(|input| matches!(input, Some(Input::StandardInput)))
+        .count()
+        > 1
 }
 
 // The value of an option is the next word.
-fn value<'a>(heap: Global, next: Option<&'a String>, what: &str) -> Result<&'a str, Failure> {
-    match next {
-        Some(word) => Ok(word.as_str()),
-        None => sentence(heap, "the last option has no ", what),
-    }
+fn value<'a>(next: Option<&'a String>, what: &'static str) -> Result<&'a str, UsageError<'a>> {
+    Ok(next.ok_or(UsageError::NoValue(what))?.as_str())
 }
 
-pub fn glyphs_options<'a>(heap: Global, words: &'a [String]) -> Result<GlyphsOptions<'a>, Failure> {
-    let mut font = FontOptions::default();
-    let mut stand_in = None;
-    let mut codes = false;
-    let mut text = None;
-    let mut words = words.iter();
-    while let Some(word) = words.next() {
-        match word.as_str() {
-            "--label" => font.label = Some(value(heap, words.next(), "file")?),
-            "--cmap" => font.cmap = Some(value(heap, words.next(), "file")?),
-            "--hmtx" => font.hmtx = Some(value(heap, words.next(), "file")?),
-            "--metrics" => font.metrics = Some(value(heap, words.next(), "number")?),
-            "--gdef" => font.gdef = Some(value(heap, words.next(), "file")?),
-            "--stand-in" => stand_in = Some(value(heap, words.next(), "file")?),
-            "--codes" => codes = true,
-            word if word != "-" && word.starts_with('-') => {
-                return sentence(heap, "unknown option ", word);
+fn input<'a>(next: Option<&'a String>, what: &'static str) -> Result<Input<'a>, UsageError<'a>> {
+    Ok(Input::from(value(next, what)?))
+}
+
+impl<'a> GlyphsOptions<'a> {
+    fn read(words: &'a [String]) -> Result<GlyphsOptions<'a>, UsageError<'a>> {
+        let mut font = FontOptions::default();
+        let mut stand_in = None;
+        let mut codes = false;
+        let mut text = None;
+        let mut words = words.iter();
+        while let Some(word) = words.next() {
+            match word.as_str() {
+                "--label" => font.label = Some(input(words.next(), "file")?),
+                "--cmap" => font.cmap = Some(input(words.next(), "file")?),
+                "--hmtx" => font.hmtx = Some(input(words.next(), "file")?),
+                "--metrics" => font.metrics = Some(value(words.next(), "number")?),
+                "--gdef" => font.gdef = Some(input(words.next(), "file")?),
+                "--stand-in" => stand_in = Some(input(words.next(), "file")?),
+                "--codes" => codes = true,
+                word => match Input::from(word) {
+                    Input::File(name) if name.starts_with('-') => {
+                        return Err(UsageError::UnknownOption(name));
+                    }
+                    _ if text.is_some() => return Err(UsageError::SecondText(word)),
+                    input => text = Some(input),
+                },
             }
-            word if text.is_some() => return sentence(heap, "more than one text: ", word),
-            word => text = Some(word),
         }
+        if wants_stdin_twice(&[font.label, font.cmap, font.hmtx, font.gdef, stand_in, text]) {
+            return Err(UsageError::StandardInputTwice);
+        }
+        let font = font.files()?;
+        let text = text.ok_or(UsageError::NoText)?;
+        Ok(GlyphsOptions {
+            font,
+            stand_in,
+            text: if codes {
+                Text::Codes(text)
+            } else {
+                Text::Utf8(text)
+            },
+        })
     }
-    let FontOptions {
-        label,
-        cmap,
-        hmtx,
-        metrics: _,
-        gdef,
-    } = font;
-    if wants_stdin_twice(&[label, cmap, hmtx, gdef, stand_in, text]) {
-        return sentence(heap, "standard input can be one file only", "");
-    }
-    let font = font.files(heap)?;
-    let Some(text) = text else {
-        return sentence(heap, "glyphs needs a text", "");
-    };
-    Ok(GlyphsOptions {
-        font,
-        stand_in,
-        text: if codes {
-            Text::Codes(text)
-        } else {
-            Text::Utf8(text)
-        },
-    })
 }
 
-pub fn check_options<'a>(heap: Global, words: &'a [String]) -> Result<CheckOptions<'a>, Failure> {
-    let mut gsub = None;
-    let mut gdef = None;
-    let mut words = words.iter();
-    while let Some(word) = words.next() {
-        match word.as_str() {
-            "--gsub" => gsub = Some(value(heap, words.next(), "value")?),
-            "--gdef" => gdef = Some(value(heap, words.next(), "value")?),
-            word => return sentence(
-                heap,
-                "check takes tables by --gsub and --gdef, and not ",
-                word,
-            ),
+impl<'a> CheckOptions<'a> {
+    fn read(words: &'a [String]) -> Result<CheckOptions<'a>, UsageError<'a>> {
+        let mut gsub = None;
+        let mut gdef = None;
+        let mut words = words.iter();
+        while let Some(word) = words.next() {
+            match word.as_str() {
+                "--gsub" => gsub = Some(input(words.next(), "value")?),
+                "--gdef" => gdef = Some(input(words.next(), "value")?),
+                word => return Err(UsageError::NotOfCheck(word)),
+            }
         }
+        if wants_stdin_twice(&[gsub, gdef]) {
+            return Err(UsageError::StandardInputTwice);
+        }
+        Ok(CheckOptions {
+            gsub: gsub.ok_or(UsageError::NoGsub)?,
+            gdef,
+        })
     }
-    if wants_stdin_twice(&[gsub, gdef]) {
-        return sentence(heap, "standard input can be one file only", "");
-    }
-    let Some(gsub) = gsub else {
-        return sentence(heap, "check needs --gsub FILE", "");
-    };
-    Ok(CheckOptions { gsub, gdef })
 }
