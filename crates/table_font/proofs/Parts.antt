@@ -1,5 +1,5 @@
 -- The parts of a GDEF table.
-use Rattle.std.proofs.Common.{◌≡◌, ℕ, ◌+◌, false, cond, ◌⊎◌, inl, inr, eqb, List, [], ◌∷◌, ◌++◌, length, None, sym, refl, ap, ◌∙◌, subst, arith}
+use Rattle.std.proofs.Common.{◌≡◌, ℕ, ◌+◌, false, cond, eqb, List, [], ◌∷◌, ◌++◌, length, None, sym, refl, ap, ◌∙◌, arith}
 use Rattle.std.proofs.lemmas.Bool.Decides.{nat_tests}
 use Rattle.layout.specs.declared.fault.Fault.{Fault}
 use Rattle.layout.specs.declared.fault.TableName.TheVariants.{Gdef as OfGdef}
@@ -8,7 +8,9 @@ use Rattle.layout.specs.Bytes.{u16_at}
 use Rattle.layout.specs.Classes.{class_faults, class_at, class_behind}
 use Rattle.layout.proofs.Firsts.{none-parts}
 use Rattle.table_font.specs.declared.table.Gdef.{Gdef}
-use Rattle.table_font.specs.Gdef.{header_faults, followed_faults, mark_sets_offset, mark_sets_faults, gdef_faults}
+use Rattle.table_font.specs.declared.gdef.Classes.{Classes}
+use Rattle.table_font.specs.declared.gdef.Classes.TheVariants.{OfGlyphs, OfMarks}
+use Rattle.table_font.specs.Gdef.{classes_offset, header_faults, followed_faults, mark_sets_offset, mark_sets_faults, gdef_faults}
 use Rattle.table_font.proofs.Accepted.{accepted}
 
 -- An offset, which is not 0, leads to a structure of the table.
@@ -38,23 +40,23 @@ followed-none (b ∷ t) e =
     let f : false ≡ eqb (length (b ∷ t)) 0 = grind (arith, nat_tests) in
     (none-parts (header_faults (b ∷ t)) (followed_faults (b ∷ t)) (sym (gdef-there (b ∷ t) f) ∙ e)).1
 
--- no fault in what the offset at a byte of the header leads to, were it a class definition
-abbrev pub NoClassFault : (t : List ℕ) (at : ℕ) → Type 0
-NoClassFault t at = first_in (if_there (u16_at t at) 0 (class_faults t)) ≡ None
+-- no fault in the class definition that an offset leads to
+abbrev pub NoClassFault : (t : List ℕ) (offset : ℕ) → Type 0
+NoClassFault t offset = first_in (if_there offset 0 (class_faults t)) ≡ None
 
-parts-none : (t : List ℕ) → first_in (gdef_faults t) ≡ None → NoClassFault t 4 × NoClassFault t 10 × (first_in (if_there (mark_sets_offset t) 0 (mark_sets_faults t)) ≡ None)
+parts-none : (t : List ℕ) → first_in (gdef_faults t) ≡ None → NoClassFault t (u16_at t 4) × NoClassFault t (u16_at t 10) × (first_in (if_there (mark_sets_offset t) 0 (mark_sets_faults t)) ≡ None)
 parts-none t e =
     let a = none-parts (if_there (u16_at t 4) 0 (class_faults t)) _ (followed-none t e) in
     let b = none-parts (if_there (u16_at t 10) 0 (class_faults t)) _ a.1 in
     (a.0, b.0, b.1)
 
 module _ (gdef : Gdef) where
-  parts : NoClassFault gdef.table.now 4 × NoClassFault gdef.table.now 10 × (first_in (if_there (mark_sets_offset gdef.table.now) 0 (mark_sets_faults gdef.table.now)) ≡ None)
+  parts : NoClassFault gdef.table.now (u16_at gdef.table.now 4) × NoClassFault gdef.table.now (u16_at gdef.table.now 10) × (first_in (if_there (mark_sets_offset gdef.table.now) 0 (mark_sets_faults gdef.table.now)) ≡ None)
   parts = parts-none gdef.table.now (accepted OfGdef gdef.table.now (gdef_faults gdef.table.now) gdef.accepted)
 
-  pub classes-none : (at : ℕ) → (at ≡ 4) ⊎ (at ≡ 10) → NoClassFault gdef.table.now at
-  classes-none at (inl e) = subst (NoClassFault gdef.table.now) (sym e) parts.0
-  classes-none at (inr e) = subst (NoClassFault gdef.table.now) (sym e) parts.1
+  pub classes-none : (of : Classes) → NoClassFault gdef.table.now (classes_offset gdef.table.now of)
+  classes-none OfGlyphs = parts.0
+  classes-none OfMarks = parts.1
 
   pub mark-sets-none : first_in (if_there (mark_sets_offset gdef.table.now) 0 (mark_sets_faults gdef.table.now)) ≡ None
   mark-sets-none = parts.2

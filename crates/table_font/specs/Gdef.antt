@@ -1,10 +1,17 @@
 -- A GDEF table: the class of a glyph, the mark class of a mark, and sets of marks. Empty bytes mean that there is none.
 use Rattle.std.specs.Prelude.{ℕ, ◌+◌, ◌*◌, Bool, cond, not, ◌&&◌, ◌||◌, List, [], ◌++◌, length, is_some, ◌==◌, nat_le, nat_lt}
+use Rattle.table_font.specs.declared.gdef.Classes.{Classes}
+use Rattle.table_font.specs.declared.gdef.Classes.TheVariants.{OfGlyphs, OfMarks}
 use Rattle.layout.specs.Bytes.{u16_at, u32_at}
 use Rattle.layout.specs.Classes.{class_faults, class_behind}
 use Rattle.layout.specs.Coverages.{coverage_faults, coverage_index}
 use Rattle.layout.specs.declared.fault.Fault.{Fault}
 use Rattle.layout.specs.Faults.{unless, extent, counted_extent, format_faults, in_turn, if_there}
+
+-- The offset of the class definition of glyphs, and of marks.
+abbrev pub classes_offset : (table : List ℕ) → Classes → ℕ
+classes_offset t OfGlyphs = u16_at t 4
+classes_offset t OfMarks = u16_at t 10
 
 -- The offset of the mark sets, which are there from minor version 2 on; 0 for none.
 abbrev pub mark_sets_offset : (table : List ℕ) → ℕ

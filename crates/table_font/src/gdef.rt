@@ -1,11 +1,11 @@
-ghost use Rattle.std.specs.Prelude.{◌≡◌, ◌≢◌, ◌⊎◌, ◌+◌, ◌*◌, ◌≤◌, IfOk, IfSome, IfNone, None};
+ghost use Rattle.std.specs.Prelude.{◌≡◌, ◌≢◌, ◌+◌, ◌*◌, ◌≤◌, IfOk, IfSome, IfNone, None};
 ghost use Rattle.font.specs.Font.{class_number};
 ghost use Rattle.layout.specs.Bytes.{u16_at, u32_at};
 ghost use Rattle.layout.specs.Classes.{class_faults, class_behind};
 ghost use Rattle.layout.specs.Faults.{first_in, in_turn, if_there};
 ghost use Rattle.layout.specs.Told.{verdict, table_verdict};
 ghost use Rattle.layout.specs.declared.fault.TableName.TheVariants.{Gdef as OfGdef};
-ghost use Rattle.table_font.specs.Gdef.{header_faults, followed_faults, mark_sets_offset, set_faults_at, mark_sets_faults, gdef_faults, glyph_class, mark_class_of, set_holds, in_set};
+ghost use Rattle.table_font.specs.Gdef.{classes_offset, header_faults, followed_faults, mark_sets_offset, set_faults_at, mark_sets_faults, gdef_faults, glyph_class, mark_class_of, set_holds, in_set};
 ghost use Rattle.table_font.specs.TableFont.{table_faults};
 
 use crate::check::check_table;
@@ -30,21 +30,28 @@ fn check_header(table: &[u8]) -> Result<(), StructureFault>
     }
 }
 
-// The class definition that the offset at a byte of the header leads to; none where the offset is 0.
-fn classes_behind(table: &[u8], at: usize) -> Option<ClassDefinition<'_>>
-    ensures some { IfSome result (λ classes. (classes.structure.table.now ≡ table.now) × (classes.structure.start ≡ u16_at table.now at) × (u16_at table.now at ≢ 0)) }
-    ensures none { IfNone result (u16_at table.now at ≡ 0) }
+// The class definitions of a table, by where their offsets stand in the header.
+#[derive(Clone, Copy)]
+enum Classes {
+    OfGlyphs = 4,
+    OfMarks = 10,
+}
+
+// One of them; none where the offset is 0.
+fn class_definition(table: &[u8], of: Classes) -> Option<ClassDefinition<'_>>
+    ensures some { IfSome result (λ classes. (classes.structure.table.now ≡ table.now) × (classes.structure.start ≡ classes_offset table.now of) × (classes_offset table.now of ≢ 0)) }
+    ensures none { IfNone result (classes_offset table.now of ≡ 0) }
 {
     let header = Structure { table, start: 0 };
-    let structure = header.behind(at)?;
+    let structure = header.behind(of as usize)?;
     Some(ClassDefinition { structure })
 }
 
 // As with mark sets, a `match`: by `map_or` with a closure the proof is longer than the lines that it would save.
-fn check_classes(table: &[u8], at: usize) -> Result<(), StructureFault>
-    ensures { verdict result ≡ first_in (if_there (u16_at table.now at) 0 (class_faults table.now)) }
+fn check_classes(table: &[u8], of: Classes) -> Result<(), StructureFault>
+    ensures { verdict result ≡ first_in (if_there (classes_offset table.now of) 0 (class_faults table.now)) }
 {
-    match classes_behind(table, at) {
+    match class_definition(table, of) {
         Some(classes) => classes.check(),
         None => Ok(()),
     }
@@ -141,8 +148,8 @@ fn check_mark_sets(table: &[u8]) -> Result<(), StructureFault>
 fn check_followed(table: &[u8]) -> Result<(), StructureFault>
     ensures { verdict result ≡ first_in (followed_faults table.now) }
 {
-    check_classes(table, 4)?;
-    check_classes(table, 10)?;
+    check_classes(table, Classes::OfGlyphs)?;
+    check_classes(table, Classes::OfMarks)?;
     check_mark_sets(table)
 }
 
@@ -168,12 +175,11 @@ impl<'a> Gdef<'a> {
         Ok(Gdef { table })
     }
 
-    // The class of a glyph by the class definition that the offset at a byte of the header leads to: at 4 for classes, at 10 for mark classes. It is 0 where the offset leads nowhere.
-    fn class_behind(&self, at: usize, glyph: u16) -> u16
-        requires { (at ≡ 4) ⊎ (at ≡ 10) }
-        ensures { result ≡ class_behind self.now.table.now (u16_at self.now.table.now at) 0 glyph }
+    // The class of a glyph by one of the class definitions; 0 where that is not there.
+    fn class_by(&self, of: Classes, glyph: u16) -> u16
+        ensures { result ≡ class_behind self.now.table.now (classes_offset self.now.table.now of) 0 glyph }
     {
-        match classes_behind(self.table, at) {
+        match class_definition(self.table, of) {
             Some(classes) => classes.class_of(glyph),
             None => 0,
         }
@@ -183,14 +189,14 @@ impl<'a> Gdef<'a> {
     pub fn class(&self, glyph: u16) -> Option<GlyphClass>
         ensures { class_number result ≡ glyph_class self.now.table.now glyph }
     {
-        GlyphClass::of(self.class_behind(4, glyph))
+        GlyphClass::of(self.class_by(Classes::OfGlyphs, glyph))
     }
 
     // The mark attachment class of a glyph.
     pub fn mark_class(&self, glyph: u16) -> u16
         ensures { result ≡ mark_class_of self.now.table.now glyph }
     {
-        self.class_behind(10, glyph)
+        self.class_by(Classes::OfMarks, glyph)
     }
 
     // Whether a mark set holds a glyph. A set that is not there holds none.
