@@ -410,6 +410,9 @@ def expect_table_font(line):
 
 def expect_gsub(line):
     name, words, length = (line.split("|") + [""] * 2)[:3]
+    if length.strip() == "each":
+        lengths = range(len(bytes_of(words)) + 1)
+        return "\n".join(expect_gsub(f"{name.strip()}, cut to {length} | {words} | {length}") for length in lengths)
     gsub = Gsub(bytes_of(words, number(length, sys.maxsize, None)))
     try:
         gsub.walk()
@@ -727,9 +730,15 @@ def truncated():
             yield f"{name}, cut to {length}", whole, length
 
 
+def everything():
+    """All types and formats in one table, with a mark set, cut to every length."""
+    lookups = [sample(name) for name in SAMPLES]
+    yield "everything", table_of(*lookups, lookup(7, moved("multiple"), moved("multiple"), flag=16, behind=[3])), "each"
+
+
 def print_cases():
     for case in itertools.chain(accepted(), outer_faults(), inner_faults(), edges(), extensions(), two_faults(),
-                                shared(), truncated()):
+                                shared(), truncated(), everything()):
         print(line_of(*case))
     print("the longest table | 1 0 0 0 10 8388603*0 | 16777215")
     print("a table that is too long before its version | 8388608*0 |")

@@ -1,5 +1,5 @@
 // Runs a table of cases from standard input, a line each: NAME | WORDS | LENGTH.
-// The table is the words, 16 bits each, where N*V stands for N words V, cut to a length in bytes; a length that is no number cuts nothing.
+// The table is the words, 16 bits each, where N*V stands for N words V, cut to a length in bytes; a length that is no number cuts nothing, but `each` cuts it to every length in turn, a line each.
 // It is checked as a GSUB table, and the lookups and subtables of an accepted table are counted.
 // What it shares with the other programs of cases stays in each: as a crate it would be public functions about how a test is written.
 #![tactic(auto)]
@@ -30,24 +30,37 @@ fn bytes_of(heap: Global, words: &str, length: usize) -> Result<Vec<u8>, AllocEr
     Ok(bytes)
 }
 
+fn print_answer(rt: &HostRuntime, table: &[u8]) -> io::Result<()> {
+    let mut gsub = Gsub::new();
+    match gsub.read(rt.alloc(), table) {
+        Ok(()) => {
+            let (lookups, subtables) = (gsub.lookup_count(), gsub.subtables());
+            println!(rt; ": accepted, {lookups} lookups, {subtables} subtables")
+        }
+        Err(CheckError::Fault(fault)) => {
+            let report = fault.told();
+            println!(rt; ": {report}")
+        }
+        Err(CheckError::Memory) => println!(rt; ": no memory"),
+    }
+}
+
 fn case(rt: &HostRuntime, line: &str) -> io::Result<()> {
     let mut parts = line.split('|');
     let name = parts.next().unwrap_or("").trim();
     let words = parts.next().unwrap_or("");
-    let length = parts.next().unwrap_or("").trim().parse::<usize>();
-    let bytes = bytes_of(rt.alloc(), words, length.unwrap_or(usize::MAX))?;
-    let mut gsub = Gsub::new();
-    match gsub.read(rt.alloc(), bytes.as_slice()) {
-        Ok(()) => {
-            let (lookups, subtables) = (gsub.lookup_count(), gsub.subtables());
-            println!(rt; "{name}: accepted, {lookups} lookups, {subtables} subtables")
+    let length = parts.next().unwrap_or("").trim();
+    let most = length.parse::<usize>().unwrap_or(usize::MAX);
+    let bytes = bytes_of(rt.alloc(), words, most)?;
+    if length == "each" {
+        for length in 0..=bytes.len() {
+            print!(rt; "{name}, cut to {length}")?;
+            print_answer(rt, &bytes[..length])?;
         }
-        Err(CheckError::Fault(fault)) => {
-            let report = fault.told();
-            println!(rt; "{name}: {report}")
-        }
-        Err(CheckError::Memory) => println!(rt; "{name}: no memory"),
+        return Ok(());
     }
+    print!(rt; "{name}")?;
+    print_answer(rt, bytes.as_slice())
 }
 
 fn main(rt: HostRuntime) -> io::Result<()> {
