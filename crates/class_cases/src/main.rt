@@ -5,7 +5,6 @@
 
 use layout::class::ClassDefinition;
 use layout::coverage::Coverage;
-use layout::fault::StructureFault;
 use layout::structure::Structure;
 use std::alloc::{AllocError, Global};
 use std::io;
@@ -26,11 +25,6 @@ fn bytes_of(heap: Global, words: &str, length: usize) -> Result<Vec<u8>, AllocEr
         }
     }
     Ok(bytes)
-}
-
-fn print_fault(rt: &HostRuntime, name: &str, fault: StructureFault) -> io::Result<()> {
-    let fault = fault.told();
-    println!(rt; "{name}: {fault}")
 }
 
 fn print_indices(rt: &HostRuntime, coverage: &Coverage<'_>, glyphs: &str) -> io::Result<()> {
@@ -63,10 +57,11 @@ fn case(rt: &HostRuntime, line: &str) -> io::Result<()> {
     let glyphs = parts.next().unwrap_or("");
     let bytes = bytes_of(rt.alloc(), words, length)?;
     let structure = Structure::new(bytes.as_slice(), start);
+    // A case is of one kind or the other, by a word.
     if kind == "classes" {
         let classes = ClassDefinition { structure };
         return match classes.check() {
-            Err(fault) => print_fault(rt, name, fault),
+            Err(fault) => println!(rt; "{name}: {fault}"),
             Ok(()) => {
                 print!(rt; "{name}: accepted")?;
                 print_classes(rt, &classes, glyphs)
@@ -75,7 +70,7 @@ fn case(rt: &HostRuntime, line: &str) -> io::Result<()> {
     }
     let coverage = Coverage { structure };
     match coverage.check() {
-        Err(fault) => print_fault(rt, name, fault),
+        Err(fault) => println!(rt; "{name}: {fault}"),
         Ok(()) => {
             let count = coverage.glyph_count();
             print!(rt; "{name}: accepted, {count} glyphs")?;

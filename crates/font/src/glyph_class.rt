@@ -11,7 +11,7 @@ pub enum GlyphClass {
 }
 
 impl GlyphClass {
-    // The class that a number stands for; 0 and what is above 4 stand for none.
+    // The class that a number stands for; 0 and what is above 4 stand for none, which is no error, so that this is no `TryFrom`.
     pub fn of(number: u16) -> Option<GlyphClass>
         ensures class { result ≡ class_of number }
         ensures number { class_number result ≡ (if nat_le number 4 then number else 0) }

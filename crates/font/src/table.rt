@@ -10,7 +10,7 @@ pub trait Blank: Copy {
 }
 
 // At most N items, in the order in which they were added, in memory of a fixed size: no heap can fail it.
-// The places past the items are blank.
+// The places past the items are blank, which no array of the library promises.
 #[derive(Drop)]
 pub struct Table<T: Blank, const N: usize> {
     places: [T; N],

@@ -76,5 +76,4 @@ sound_none t n m = λ kind s h.
     let bits = and_zero_l (2 ^ index kind) in
     let e : not (eqb (bit_and (get_or (replicate m 0) s 0) (2 ^ index kind)) 0) ≡ false = ap (λ u. not (eqb (bit_and u (2 ^ index kind)) 0)) zero ∙ ap (λ u. not (eqb u 0)) bits in
     let z : ◌≡◌ {A = Bool} false true = sym e ∙ h in
-    let y : ◌≡◌ {A = ℕ} 0 1 = cc in
-    absurd (omega arith)
+    absurd cc

@@ -1,8 +1,8 @@
 // The check of a subtable, by its form.
-ghost use Rattle.std.specs.Prelude.{◌≡◌, ◌+◌, IfOk};
+ghost use Rattle.std.specs.Prelude.{◌≡◌, ◌+◌, IfOk, nat_le};
 ghost use Rattle.layout.specs.Bytes.{u16_at};
 ghost use Rattle.layout.specs.Coverages.{coverage_ranges};
-ghost use Rattle.layout.specs.Faults.{first_in};
+ghost use Rattle.layout.specs.Faults.{first_in, unless};
 ghost use Rattle.layout.specs.Ranges.{size};
 ghost use Rattle.layout.specs.Told.{verdict};
 ghost use Rattle.gsub.specs.Rules.{context_coverages};
@@ -19,6 +19,7 @@ use crate::walk::{Start, Walk};
 use layout::bytes::{Field, Width};
 use layout::coverage::Coverage;
 use layout::fault::{Rule, StructureFault};
+use layout::structure::Structure;
 
 impl Walk<'_> {
     // The coverage of the subtable at `start`. Answers how many glyphs it has.
@@ -27,10 +28,7 @@ impl Walk<'_> {
         ensures glyphs { IfOk result (λ n. n ≡ size (coverage_ranges self.old.table (start.byte + u16_at self.old.table (start.byte + 2)))) }
         ensures same { self.new ≡ self.old }
     {
-        let at = start.byte + 2;
-        let Some(target) = self.behind(start, at) else {
-            return Err(self.structure(start).broken(Rule::Unknown, at));
-        };
+        let target = self.follow(start, start.byte + 2)?;
         Once(Coverages).check(self, target)?;
         let structure = self.structure(target);
         Ok(Coverage { structure }.glyph_count())
@@ -46,7 +44,7 @@ impl Walk<'_> {
         let count = subtable.u16_in(4);
         subtable.check_fields(start.byte + 6, Width::Two, u64::from(count))?;
         let glyphs = self.check_coverage(start)?;
-        subtable.require(glyphs <= usize::from(count), Rule::Bounds, start.byte + 4)
+        check_enough(subtable, glyphs, start.byte + 4)
     }
 
     // The same where the array has offsets.
@@ -126,9 +124,7 @@ impl Walk<'_> {
         let subtable = self.structure(start);
         let rule = self.reverse_rule(start)?;
         let glyphs = self.check_coverage(start)?;
-        let count_at = rule.arrays.lookahead.past();
-        let count = u16::read(subtable.table, count_at);
-        subtable.require(glyphs <= usize::from(count), Rule::Bounds, count_at)?;
+        check_enough(subtable, glyphs, rule.arrays.lookahead.past())?;
         self.check_context(rule)
     }
 
@@ -181,6 +177,14 @@ impl Walk<'_> {
             None => subtables.check(self, start),
         }
     }
+}
+
+// The array whose count stands at a byte has an entry for each of so many glyphs.
+fn check_enough(subtable: Structure<'_>, glyphs: usize, at: usize) -> Result<(), StructureFault>
+    ensures { verdict result ≡ first_in (unless (nat_le glyphs (u16_at subtable.entry.table.now at)) 4 subtable.entry.start at) }
+{
+    let entries = usize::from(u16::read(subtable.table, at));
+    subtable.require(glyphs <= entries, Rule::Bounds, at)
 }
 
 // How many class definitions stand in a subtable of format 2.

@@ -59,13 +59,23 @@ fn moved_type(lookup: Structure<'_>) -> u16
     lookup.u16_in(first + 2)
 }
 
-fn in_lookup(lookup: u16, subtable: Option<u16>) -> Place
-    ensures { result ≡ in_lookup lookup subtable }
-{
-    Place {
-        table: TableName::Gsub,
-        lookup: Some(lookup),
-        subtable,
+// A lookup by its number and where it starts.
+#[derive(Clone, Copy)]
+struct NumberedLookup {
+    number: u16,
+    start: Start,
+}
+
+impl NumberedLookup {
+    // The place of a subtable, or of the lookup itself.
+    fn place(self, subtable: Option<u16>) -> Place
+        ensures { result ≡ in_lookup self.number subtable }
+    {
+        Place {
+            table: TableName::Gsub,
+            lookup: Some(self.number),
+            subtable,
+        }
     }
 }
 
@@ -96,57 +106,51 @@ impl Walk<'_> {
         }
     }
 
-    // Subtable number j of lookup k.
-    fn check_subtable_at(&mut self, k: u16, j: u16, lookup: Start) -> Result<(), PlacedFault>
-        ensures answer { placed_verdict result ≡ first_in (subtable_faults_at self.old.table self.old.lookups k lookup.byte j (lookup.byte + 6 + 2 * j)) }
+    // Subtable number j of a lookup.
+    fn check_subtable_at(&mut self, lookup: NumberedLookup, j: u16) -> Result<(), PlacedFault>
+        ensures answer { placed_verdict result ≡ first_in (subtable_faults_at self.old.table self.old.lookups lookup.number lookup.start.byte j (lookup.start.byte + 6 + 2 * j)) }
         ensures same { self.new ≡ self.old }
     {
-        let at = lookup.byte + 6 + 2 * usize::from(j);
-        let Some(subtable) = self.behind(lookup, at) else {
-            let fault = self.structure(lookup).broken(Rule::Unknown, at);
-            return in_lookup(k, None).hold(Err(fault));
-        };
-        let answer = self.check_lookup_subtable(lookup, subtable);
-        in_lookup(k, Some(j)).hold(answer)
+        let at = lookup.start.byte + 6 + 2 * usize::from(j);
+        let subtable = lookup.place(None).hold(self.follow(lookup.start, at))?;
+        let answer = self.check_lookup_subtable(lookup.start, subtable);
+        lookup.place(Some(j)).hold(answer)
     }
 
-    // The subtables of lookup k, in order.
-    fn check_subtables(&mut self, k: u16, lookup: Start, count: u16) -> Result<(), PlacedFault>
-        ensures answer { placed_verdict result ≡ first_in (in_turn (subtable_faults_at self.old.table self.old.lookups k lookup.byte) 2 0 (lookup.byte + 6) count) }
+    // Its subtables, in order.
+    fn check_subtables(&mut self, lookup: NumberedLookup, count: u16) -> Result<(), PlacedFault>
+        ensures answer { placed_verdict result ≡ first_in (in_turn (subtable_faults_at self.old.table self.old.lookups lookup.number lookup.start.byte) 2 0 (lookup.start.byte + 6) count) }
         ensures same { self.new ≡ self.old }
     {
         for j in 0..count {
-            self.check_subtable_at(k, j, lookup)?;
+            self.check_subtable_at(lookup, j)?;
         }
         Ok(())
     }
 
-    // Lookup k, unless it was found without faults before.
-    fn check_lookup(&mut self, k: u16, start: Start) -> Result<(), PlacedFault>
-        ensures answer { placed_verdict result ≡ first_in (lookup_faults self.old.table self.old.lookups k start.byte) }
+    // A lookup, unless it was found without faults before. It is no target of `check_once`, since its faults have places.
+    fn check_lookup(&mut self, lookup: NumberedLookup) -> Result<(), PlacedFault>
+        ensures answer { placed_verdict result ≡ first_in (lookup_faults self.old.table self.old.lookups lookup.number lookup.start.byte) }
         ensures same { self.new ≡ self.old }
     {
-        if self.is_remembered(Kind::Lookup, start) {
+        if self.is_remembered(Kind::Lookup, lookup.start) {
             return Ok(());
         }
-        let lookup = self.structure(start);
-        in_lookup(k, None).hold(check_lookup_fields(lookup))?;
-        self.check_subtables(k, start, lookup.u16_in(4))?;
-        self.remember(Kind::Lookup, start);
+        let structure = self.structure(lookup.start);
+        lookup.place(None).hold(check_lookup_fields(structure))?;
+        self.check_subtables(lookup, structure.u16_in(4))?;
+        self.remember(Kind::Lookup, lookup.start);
         Ok(())
     }
 
-    // Lookup k of the list at `list`.
+    // Lookup number k of the list at `list`.
     fn check_lookup_at(&mut self, k: u16, list: Start) -> Result<(), PlacedFault>
         ensures answer { placed_verdict result ≡ first_in (lookup_faults_at self.old.table self.old.lookups list.byte k (list.byte + 2 + 2 * k)) }
         ensures same { self.new ≡ self.old }
     {
         let at = list.byte + 2 + 2 * usize::from(k);
-        let Some(lookup) = self.behind(list, at) else {
-            let fault = self.structure(list).broken(Rule::Unknown, at);
-            return Place::of(TableName::Gsub).hold(Err(fault));
-        };
-        self.check_lookup(k, lookup)
+        let start = Place::of(TableName::Gsub).hold(self.follow(list, at))?;
+        self.check_lookup(NumberedLookup { number: k, start })
     }
 
     // All lookups of the list, in order.

@@ -1,7 +1,7 @@
 ghost use Rattle.std.specs.Prelude.{◌≡◌};
 ghost use Rattle.gsub.specs.Forms.{form_of, formed};
 
-// A subtable by its type and format, with its own part of the table, from its first byte on. Each case has its part, as the project wants a checked subtable; the check alone would need no more than the form.
+// A subtable by its type and format, with its own part of the table, from its first byte on. Each case has its part, for the code that is to shape; the check needs no more than the form.
 #[derive(Clone, Copy)]
 pub(crate) enum Subtable<'a> {
     Delta { part: &'a [u8] },

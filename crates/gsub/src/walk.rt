@@ -1,9 +1,11 @@
-ghost use Rattle.std.specs.Prelude.{◌≡◌, ◌≢◌, true, ◌+◌, ◌^◌, ◌<◌, ◌≤◌, IfOk, IfSome, IfNone, None};
+ghost use Rattle.std.specs.Prelude.{◌≡◌, ◌≢◌, ◌==◌, not, true, ◌+◌, ◌^◌, ◌<◌, ◌≤◌, IfOk, IfSome, IfNone, None};
 ghost use Rattle.layout.specs.Bytes.{u16_at};
-ghost use Rattle.layout.specs.Faults.{first_in};
+ghost use Rattle.layout.specs.Faults.{first_in, unless};
+ghost use Rattle.layout.specs.Told.{verdict};
 ghost use Rattle.gsub.specs.Seen.{faults_of};
 
 use crate::seen::Kind;
+use layout::fault::{Rule, StructureFault};
 use layout::structure::Structure;
 use std::alloc::{AllocError, Global};
 use std::marker::Model;
@@ -20,7 +22,7 @@ pub(crate) struct Start {
 pub(crate) struct Walk<'a> {
     table: &'a [u8],
     lookups: u16,
-    // For each byte of the table the kinds of structures that start there, a bit each: a set of the library would take many times the memory where a table leads to every byte.
+    // For each byte of the table the kinds of structures that start there, a bit each. A set of the library would be no shorter, and take many times the memory where a table leads to every byte.
     seen: Vec<u16>,
     // How many structures were walked to their end, so that a test can show that one is not walked twice.
     walked: u64,
@@ -69,6 +71,17 @@ impl<'a> Walk<'a> {
     {
         let target = self.structure(start).behind(at)?;
         Some(Start { byte: target.start })
+    }
+
+    // The same where an offset of 0 is a fault.
+    pub(crate) fn follow(&self, start: Start, at: usize) -> Result<Start, StructureFault>
+        requires { start.byte ≤ at }
+        ensures answer { verdict result ≡ first_in (unless (not (u16_at self.now.table at == 0)) 2 start.byte at) }
+        ensures target { IfOk result (λ target. (target.byte ≡ start.byte + u16_at self.now.table at) × (u16_at self.now.table at ≢ 0)) }
+    {
+        let structure = self.structure(start);
+        self.behind(start, at)
+            .ok_or(structure.broken(Rule::Unknown, at))
     }
 
     pub(crate) fn lookups(&self) -> u16

@@ -37,10 +37,7 @@ fn print_answer(rt: &HostRuntime, table: &[u8]) -> io::Result<()> {
             let (lookups, subtables) = (gsub.lookup_count(), gsub.subtables());
             println!(rt; ": accepted, {lookups} lookups, {subtables} subtables")
         }
-        Err(CheckError::Fault(fault)) => {
-            let report = fault.told();
-            println!(rt; ": {report}")
-        }
+        Err(CheckError::Fault(fault)) => println!(rt; ": {fault}"),
         Err(CheckError::Memory) => println!(rt; ": no memory"),
     }
 }

@@ -11,10 +11,10 @@ use Rattle.layout.specs.declared.array.Third.TheVariants.{StartIndex}
 use Rattle.layout.specs.Bytes.{u16_at}
 use Rattle.layout.specs.Classes.{class_faults, list_faults, range_faults}
 use Rattle.layout.specs.Coverages.{kind_of, coverage_faults}
-use Rattle.layout.specs.Faults.{first_in, extent, unless, format_faults}
+use Rattle.layout.specs.Faults.{first_in, extent, format_faults}
 use Rattle.layout.specs.Ranges.{counted_faults, field_size, entry_size, field_count, ranges_from, Rises, last_from, last_of, size, entry_faults, order_faults, array_faults}
 use Rattle.layout.proofs.Firsts.{none-parts, unless-none}
-use Rattle.layout.proofs.Order.{rises-from, entry-inside}
+use Rattle.layout.proofs.Order.{rises-from, entry-inside, entry-none}
 
 pub extent-none : (t : List ℕ) (s i w n : ℕ) → first_in (extent t s i w n) ≡ None → i + w * n ≤ length t
 extent-none t s i w n e = leb-true (i + w * n) (length t) (unless-none (leb (i + w * n) (length t)) 1 s _ e)
@@ -56,9 +56,7 @@ module _ (t : List ℕ) (s : ℕ) where
 start_is : (kind : Kind) (s i low before : ℕ) (r : Range) (rs : List Range) → first_in (order_faults StartIndex kind s i low before (r ∷ rs)) ≡ None → r.value ≡ before
 start_is kind s i low before r rs e =
     let p = none-parts (entry_faults StartIndex kind s i low before r) (order_faults StartIndex kind s (i + entry_size kind) (r.last + 1) (before + (r.last - r.first + 1)) rs) e in
-    let a = none-parts (unless (leb low r.first) 3 s i) _ p.0 in
-    let b = none-parts (unless (leb r.first r.last) 3 s (i + field_size kind)) _ a.1 in
-    let v = unless-none (eqb r.value before) 3 s (i + 2 * field_size kind) b.1 in
+    let v = unless-none (eqb r.value before) 3 s (i + 2 * field_size kind) (entry-none StartIndex kind s i low before r p.0).2 in
     grind (arith, nat_tests)
 
 -- the last of ranges, by its number
@@ -82,7 +80,7 @@ last-counts kind s i low before r (q ∷ rs) e =
 
 pub count-last : (kind : Kind) (s i : ℕ) (rs : List Range) (r : Range) → first_in (order_faults StartIndex kind s i 0 0 rs) ≡ None → Some r ≡ last_of rs
     → r.value + (r.last - r.first) + 1 ≡ size rs
-count-last kind s i [] r e l = let z : ◌≡◌ {A = ℕ} 0 1 = cc in absurd (omega arith)
+count-last kind s i [] r e l = absurd cc
 count-last kind s i (q ∷ rs) r e l =
     let same : last_from q rs ≡ r = cc in
     let n = last-counts kind s i 0 0 q rs e in

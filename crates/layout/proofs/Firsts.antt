@@ -1,39 +1,39 @@
 -- The first of two lists, one behind the other.
-use Rattle.std.proofs.Common.{◌≡◌, ℕ, zero, suc, ◌+◌, ◌*◌, ◌<◌, Bool, true, false, List, [], ◌∷◌, ◌++◌, Some, None, refl, ◌∙◌, mul-suc, arith}
+use Rattle.std.proofs.Common.{◌≡◌, ℕ, zero, suc, ◌+◌, Bool, true, false, List, [], ◌∷◌, ◌++◌, Some, None, refl, ◌∙◌}
 use Rattle.layout.specs.declared.fault.Fault.{Fault}
 use Rattle.layout.specs.Faults.{first_in, unless, in_turn, reports}
 use Rattle.layout.specs.declared.fault.Place.{Place}
 
 pub first-behind : {X : Type 0} (xs ys : List X) → first_in xs ≡ None → first_in (xs ++ ys) ≡ first_in ys
 first-behind [] ys e = refl
-first-behind (x ∷ xs) ys e = let z : ◌≡◌ {A = ℕ} 0 1 = cc in absurd (omega arith)
+first-behind (x ∷ xs) ys e = absurd cc
 
 pub first-before : {X : Type 0} (xs ys : List X) (x : X) → first_in xs ≡ Some x → first_in (xs ++ ys) ≡ Some x
-first-before [] ys x e = let z : ◌≡◌ {A = ℕ} 0 1 = cc in absurd (omega arith)
+first-before [] ys x e = absurd cc
 first-before (y ∷ xs) ys x e = e
 
 -- no first of both: of neither
 pub none-parts : {X : Type 0} (xs ys : List X) → first_in (xs ++ ys) ≡ None → (first_in xs ≡ None) × (first_in ys ≡ None)
 none-parts [] ys e = (refl, e)
-none-parts (x ∷ xs) ys e = let z : ◌≡◌ {A = ℕ} 0 1 = cc in absurd (omega arith)
+none-parts (x ∷ xs) ys e = absurd cc
 
 pub unless-none : (t : Bool) (n s i : ℕ) → first_in (unless t n s i) ≡ None → t ≡ true
 unless-none true n s i e = refl
-unless-none false n s i e = let z : ◌≡◌ {A = ℕ} 0 1 = cc in absurd (omega arith)
+unless-none false n s i e = absurd cc
 
 -- no first of either: none of both
 pub none-join : {X : Type 0} (xs ys : List X) → None ≡ first_in xs → None ≡ first_in ys → None ≡ first_in (xs ++ ys)
 none-join [] ys e f = f
-none-join (x ∷ xs) ys e f = let z : ◌≡◌ {A = ℕ} 0 1 = cc in absurd (omega arith)
+none-join (x ∷ xs) ys e f = absurd cc
 
 -- faults with a place: there are some exactly where there are some without
 pub reports-none : (p : Place) (xs : List Fault) → first_in xs ≡ None → first_in (reports p xs) ≡ None
 reports-none p [] e = refl
-reports-none p (x ∷ xs) e = let z : ◌≡◌ {A = ℕ} 0 1 = cc in absurd (omega arith)
+reports-none p (x ∷ xs) e = absurd cc
 
 pub none-reports : (p : Place) (xs : List Fault) → first_in (reports p xs) ≡ None → first_in xs ≡ None
 none-reports p [] e = refl
-none-reports p (x ∷ xs) e = let z : ◌≡◌ {A = ℕ} 0 1 = cc in absurd (omega arith)
+none-reports p (x ∷ xs) e = absurd cc
 
 -- where no element of one array gives anything if the other's gives nothing
 pub turns-none : {X Y : Type 0} (f : ℕ → ℕ → List X) (g : ℕ → ℕ → List Y) (each : (k i : ℕ) → first_in (f k i) ≡ None → first_in (g k i) ≡ None) (w k i n : ℕ) → first_in (in_turn f w k i n) ≡ None → first_in (in_turn g w k i n) ≡ None
@@ -41,18 +41,3 @@ turns-none f g each w k i zero e = refl
 turns-none f g each w k i (suc n) e =
     let p = none-parts (f k i) (in_turn f w (k + 1) (i + w) n) e in
     first-behind (g k i) _ (each k i p.0) ∙ turns-none f g each w (k + 1) (i + w) n p.1
-
--- where no element gives anything, element k does not
-pub turn-nth : {X : Type 0} (each : ℕ → ℕ → List X) (w j i n k : ℕ) → k < n → first_in (in_turn each w j i n) ≡ None → first_in (each (j + k) (i + w * k)) ≡ None
-turn-nth each w j i zero k h e = absurd (omega arith)
-turn-nth each w j i (suc n) zero h e =
-    let p = (none-parts (each j i) (in_turn each w (j + 1) (i + w) n) e).0 in
-    let a : j ≡ j + 0 = omega arith in
-    let b : i ≡ i + w * 0 = omega arith in
-    cc
-turn-nth each w j i (suc n) (suc k) h e =
-    let q = turn-nth each w (j + 1) (i + w) n k (omega arith) (none-parts (each j i) (in_turn each w (j + 1) (i + w) n) e).1 in
-    let m = mul-suc w k in
-    let a : (j + 1) + k ≡ j + suc k = omega arith in
-    let b : (i + w) + w * k ≡ i + w * suc k = omega arith in
-    cc

@@ -1,11 +1,11 @@
 -- Arrays of ranges, entry by entry.
-use Rattle.std.proofs.Common.{◌≡◌, ℕ, zero, suc, ◌+◌, ◌-◌, ◌*◌, ◌<◌, ◌≤◌, leb, List, [], ◌∷◌, ◌++◌, length, get_or, Some, None, sym, refl, ap, ◌∙◌, mul-le-mul_left, mul-suc, arith}
+use Rattle.std.proofs.Common.{◌≡◌, true, ℕ, zero, suc, ◌+◌, ◌-◌, ◌*◌, ◌<◌, ◌≤◌, leb, List, [], ◌∷◌, ◌++◌, length, get_or, Some, None, sym, refl, ap, ◌∙◌, mul-le-mul_left, mul-suc, arith}
 use Rattle.layout.specs.declared.array.Kind.{Kind}
 use Rattle.layout.specs.declared.array.Range.{Range}
 use Rattle.layout.specs.declared.array.Third.{Third}
 use Rattle.layout.specs.declared.fault.Fault.{Fault}
 use Rattle.layout.specs.Faults.{first_in, unless}
-use Rattle.layout.specs.Ranges.{field_size, entry_size, range_at, ranges_from, entry_faults, order_faults, Rises}
+use Rattle.layout.specs.Ranges.{field_size, entry_size, range_at, ranges_from, entry_faults, order_faults, third_faults, Rises}
 use Rattle.layout.proofs.Firsts.{first-behind, first-before, none-parts, unless-none}
 
 -- entry j of the n entries from byte i on, the first of which has number k
@@ -61,11 +61,18 @@ entry-inside m n k h =
     let l : m * suc k ≤ m * n = mul-le-mul_left m h in
     omega arith
 
+-- an entry without faults, field by field
+pub entry-none : (third : Third) (kind : Kind) (s i low before : ℕ) (r : Range) → first_in (entry_faults third kind s i low before r) ≡ None
+    → (leb low r.first ≡ true) × (leb r.first r.last ≡ true) × (first_in (third_faults third s (i + 2 * field_size kind) before r) ≡ None)
+entry-none third kind s i low before r e =
+    let a = none-parts (unless (leb low r.first) 3 s i) _ e in
+    let b = none-parts (unless (leb r.first r.last) 3 s (i + field_size kind)) _ a.1 in
+    (unless-none (leb low r.first) 3 s i a.0, unless-none (leb r.first r.last) 3 s (i + field_size kind) b.0, b.1)
+
 -- where no entry has a fault, the ranges rise
 pub rises-from : (third : Third) (kind : Kind) (s i low before : ℕ) (rs : List Range) → first_in (order_faults third kind s i low before rs) ≡ None → Rises low rs
 rises-from third kind s i low before [] e = tt
 rises-from third kind s i low before (r ∷ rs) e =
     let p = none-parts (entry_faults third kind s i low before r) (order_faults third kind s (i + entry_size kind) (r.last + 1) (before + (r.last - r.first + 1)) rs) e in
-    let a = none-parts (unless (leb low r.first) 3 s i) _ p.0 in
-    let b = none-parts (unless (leb r.first r.last) 3 s (i + field_size kind)) _ a.1 in
-    (unless-none (leb low r.first) 3 s i a.0, unless-none (leb r.first r.last) 3 s (i + field_size kind) b.0, rises-from third kind s (i + entry_size kind) (r.last + 1) (before + (r.last - r.first + 1)) rs p.1)
+    let a = entry-none third kind s i low before r p.0 in
+    (a.0, a.1, rises-from third kind s (i + entry_size kind) (r.last + 1) (before + (r.last - r.first + 1)) rs p.1)

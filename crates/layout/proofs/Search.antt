@@ -8,7 +8,7 @@ use Rattle.layout.specs.Ranges.{holds, holding, Rises}
 
 -- no range of the first list holds x: those of the second decide
 holds_not : (x : ℕ) (a : Range) (here : Option Range) (t : Bool) → holds x a ≡ t → cond t (Some a) here ≡ None → (holds x a ≡ false) × (here ≡ None)
-holds_not x a here true p q = let z : ◌≡◌ {A = ℕ} 0 1 = cc in absurd (omega arith)
+holds_not x a here true p q = absurd cc
 holds_not x a here false p q = (p, q)
 
 holding-behind : (x : ℕ) (xs ys : List Range) → holding x xs ≡ None → holding x (xs ++ ys) ≡ holding x ys

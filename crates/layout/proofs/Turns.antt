@@ -31,6 +31,16 @@ module _ {X : Type 0} (each : ℕ → ℕ → List X) (w : ℕ) where
       let p = none-parts (each j i) (in_turn each w (j + 1) (i + w) k) (sym before) in
       stops-from (j + 1) (i + w) k n x (omega arith) (sym p.1) (some ∙ ap first_in (sym (here j i k))) ∙ sym (first-behind (each j i) _ p.0)
 
+  nth-from : (j i n k : ℕ) → k < n → first_in (in_turn each w j i n) ≡ None → first_in (each (j + k) (i + w * k)) ≡ None
+  nth-from j i zero k h e = absurd (omega arith)
+  nth-from j i (suc n) zero h e = ap first_in (first j i) ∙ (none-parts (each j i) (in_turn each w (j + 1) (i + w) n) e).0
+  nth-from j i (suc n) (suc k) h e =
+      sym (ap first_in (here j i k)) ∙ nth-from (j + 1) (i + w) n k (omega arith) (none-parts (each j i) (in_turn each w (j + 1) (i + w) n) e).1
+
+  -- where no element gives anything, element k does not
+  pub turn-nth : (i n k : ℕ) → k < n → first_in (in_turn each w 0 i n) ≡ None → first_in (each k (i + w * k)) ≡ None
+  turn-nth i n k h e = let z : k ≡ 0 + k = omega arith in ap (λ m. first_in (each m (i + w * k))) z ∙ nth-from 0 i n k h e
+
   pub turn-on : (i k : ℕ) → None ≡ first_in (in_turn each w 0 i k) → None ≡ first_in (each k (i + w * k)) → None ≡ first_in (in_turn each w 0 i (k + 1))
   turn-on i k before none =
       let z : 0 + k ≡ k = omega arith in

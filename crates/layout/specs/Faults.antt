@@ -37,14 +37,9 @@ in_turn each w k i (suc n) = each k i ++ in_turn each w (k + 1) (i + w) n
 abbrev pub format_faults : (table : List ℕ) → (s most : ℕ) → List Fault
 format_faults t s most = extent t s s 2 1 ++ unless (nat_le 1 (u16_at t s) && nat_le (u16_at t s) most) 2 s s
 
--- The number of a lookup or a subtable; 65,535 for none.
-abbrev pub number_or_none : Option ℕ → ℕ
-number_or_none None = 65535
-number_or_none (Some k) = k
-
 -- A structure's fault, told at a place; and so its faults.
 abbrev pub report_at : Place → Fault → Report
-report_at p f = record { number = f.number; table = p.table; lookup = number_or_none p.lookup; subtable = number_or_none p.subtable; start = f.start; byte = f.byte }
+report_at p f = record { place = p; fault = f }
 
 abbrev pub reports : Place → List Fault → List Report
 reports p = map (report_at p)

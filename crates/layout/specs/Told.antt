@@ -70,7 +70,12 @@ name_text Gsub = codes "GSUB"
 abbrev pub fault_text : Fault → List ℕ
 fault_text f = codes "fault " ++ (decimal f.number ++ (codes " structure " ++ (decimal f.start ++ (codes " byte " ++ decimal f.byte))))
 
+-- The number of a lookup or a subtable; 65,535 for none.
+abbrev pub number_or_none : Option ℕ → ℕ
+number_or_none None = 65535
+number_or_none (Some k) = k
+
 abbrev pub report_text : Report → List ℕ
 report_text r =
-    codes "fault " ++ (decimal r.number ++ (codes " table " ++ (name_text r.table ++ (codes " lookup " ++ (decimal r.lookup ++ (codes " subtable "
-    ++ (decimal r.subtable ++ (codes " structure " ++ (decimal r.start ++ (codes " byte " ++ decimal r.byte))))))))))
+    codes "fault " ++ (decimal r.fault.number ++ (codes " table " ++ (name_text r.place.table ++ (codes " lookup " ++ (decimal (number_or_none r.place.lookup) ++ (codes " subtable "
+    ++ (decimal (number_or_none r.place.subtable) ++ (codes " structure " ++ (decimal r.fault.start ++ (codes " byte " ++ decimal r.fault.byte))))))))))

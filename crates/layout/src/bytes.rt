@@ -79,8 +79,11 @@ impl Field for u32 {
         if at >= table.len() {
             return 0;
         }
-        let high = u16::read(table, at);
-        let low = u16::read(table, at.saturating_add(2));
-        u32::from(high) * 65_536 + u32::from(low)
+        u32::from_be_bytes([
+            byte_at(table, at),
+            byte_at(table, at + 1),
+            byte_at(table, at + 2),
+            byte_at(table, at + 3),
+        ])
     }
 }

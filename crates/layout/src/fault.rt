@@ -1,5 +1,5 @@
 ghost use Rattle.std.specs.Prelude.{◌≡◌, List, Some};
-ghost use Rattle.layout.specs.Faults.{first_in, number_or_none, own_place, report_at, reports, too_long};
+ghost use Rattle.layout.specs.Faults.{first_in, own_place, reports, too_long};
 ghost use Rattle.layout.specs.Told.{name_text, fault_text, report_text, wrapped, told, verdict, placed_verdict, table_verdict, table_told, placed_table, placing};
 
 use std::fmt;
@@ -48,14 +48,14 @@ pub struct Place {
 }
 
 // A structure's fault, kept whole, and the structure's place.
-#[derive(Clone, Copy)]
+#[derive(Clone, Copy, Debug, PartialEq)]
 pub struct PlacedFault {
     pub place: Place,
     pub fault: StructureFault,
 }
 
 // What is wrong with a table.
-#[derive(Clone, Copy)]
+#[derive(Clone, Copy, Debug, PartialEq)]
 pub enum TableFault {
     // More than 16,777,215 bytes.
     TooLong(TableName),
@@ -63,22 +63,18 @@ pub enum TableFault {
 }
 
 // What a structure's fault tells: its number, the structure's start and the byte of the first bad field.
-#[derive(Clone, Copy)]
+#[derive(Clone, Copy, Debug, PartialEq)]
 pub struct Fault {
     pub number: u8,
     pub start: usize,
     pub byte: usize,
 }
 
-// All that a table's fault tells: the same, and where it is. As the project tells faults, 65,535 stands for no lookup and no subtable.
+// All that a table's fault tells: the same, and where it is.
 #[derive(Clone, Copy, Debug, PartialEq)]
 pub struct Report {
-    pub number: u8,
-    pub table: TableName,
-    pub lookup: u16,
-    pub subtable: u16,
-    pub start: usize,
-    pub byte: usize,
+    pub place: Place,
+    pub fault: Fault,
 }
 
 impl From<ByteFault> for StructureFault {
@@ -135,19 +131,6 @@ impl Place {
     {
         answer.map_err(|fault| PlacedFault { place: self, fault })
     }
-
-    fn report(self, fault: Fault) -> Report
-        ensures { result ≡ report_at self fault }
-    {
-        Report {
-            number: fault.number,
-            table: self.table,
-            lookup: self.lookup.unwrap_or(65_535),
-            subtable: self.subtable.unwrap_or(65_535),
-            start: fault.start,
-            byte: fault.byte,
-        }
-    }
 }
 
 // A table has at most 16,777,215 bytes.
@@ -165,12 +148,18 @@ impl TableFault {
         ensures { result ≡ table_told self.now }
     {
         match self {
-            TableFault::TooLong(table) => Place::of(*table).report(Fault {
-                number: Rule::Bounds as u8,
-                start: 0,
-                byte: 0,
-            }),
-            TableFault::Structure(placed) => placed.place.report(placed.fault.told()),
+            TableFault::TooLong(table) => Report {
+                place: Place::of(*table),
+                fault: Fault {
+                    number: Rule::Bounds as u8,
+                    start: 0,
+                    byte: 0,
+                },
+            },
+            TableFault::Structure(placed) => Report {
+                place: placed.place,
+                fault: placed.fault.told(),
+            },
         }
     }
 }
@@ -201,13 +190,38 @@ impl fmt::Display for Fault {
     }
 }
 
+// A structure's fault and a table's print what they tell.
+impl fmt::Display for StructureFault {
+    ghost output = { λ x. Some (fault_text (told x)) };
+
+    fn fmt<W: fmt::Write>(&self, f: &mut fmt::Formatter<W>) -> fmt::Result {
+        let fault = self.told();
+        write!(f, "{fault}")
+    }
+}
+
+impl fmt::Display for TableFault {
+    ghost output = { λ x. Some (report_text (table_told x)) };
+
+    fn fmt<W: fmt::Write>(&self, f: &mut fmt::Formatter<W>) -> fmt::Result {
+        let report = self.told();
+        write!(f, "{report}")
+    }
+}
+
 impl fmt::Display for Report {
     ghost output = { λ x. Some (report_text x) };
 
     fn fmt<W: fmt::Write>(&self, f: &mut fmt::Formatter<W>) -> fmt::Result {
-        let (number, table) = (self.number, self.table);
-        let (lookup, subtable) = (self.lookup, self.subtable);
-        let (start, byte) = (self.start, self.byte);
+        let Fault {
+            number,
+            start,
+            byte,
+        } = self.fault;
+        let table = self.place.table;
+        // As the project tells faults, 65,535 stands for none.
+        let lookup = self.place.lookup.unwrap_or(65_535);
+        let subtable = self.place.subtable.unwrap_or(65_535);
         write!(
             f,
             "fault {number} table {table} lookup {lookup} subtable {subtable} structure {start} byte {byte}"

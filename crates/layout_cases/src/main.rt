@@ -36,10 +36,7 @@ fn case(rt: &HostRuntime, line: &str) -> io::Result<()> {
     let structure = Structure::new(bytes.as_slice(), start);
     let coverage = Coverage { structure };
     match coverage.check() {
-        Err(fault) => {
-            let fault = fault.told();
-            println!(rt; "{name}: {fault}")
-        }
+        Err(fault) => println!(rt; "{name}: {fault}"),
         Ok(()) => {
             print!(rt; "{name}: accepted")?;
             for word in parts.next().unwrap_or("").split_whitespace() {

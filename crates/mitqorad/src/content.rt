@@ -67,7 +67,7 @@ impl<'a> Content<'a> {
     {
         let text = self.text(heap)?;
         let mut all = Vec::new(heap);
-        // A loop, since a bad line ends it with an error that itself needs memory.
+        // A loop, since the contract says that each line was a number.
         for (index, line) in text.lines().enumerate() {
             let Some(character) = number_of(line) else {
                 return Err(self.bad_line(heap, index + 1, "a character's number"));
@@ -85,8 +85,7 @@ impl<'a> Content<'a> {
     {
         let text = self.text(heap)?;
         let mut table = PairTable::new();
-        // A loop for the same reason, and since a pair too many is refused. To share it with `numbers`
-        // would take two closures: what reads a line, and what keeps what it says.
+        // A loop for the same reason. To share it with `numbers` would take two closures: what reads a line, and what keeps what it says.
         for (index, line) in text.lines().enumerate() {
             let Some(pair) = pair_of(line) else {
                 let should_be = "two characters' numbers, parted by a tab";

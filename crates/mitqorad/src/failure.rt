@@ -109,9 +109,8 @@ impl fmt::Display for Failure {
                 write!(f, "{refusal}: {meaning}")
             }
             Failure::Fault(fault) => {
-                let report = fault.told();
                 let meaning = fault_meaning(fault);
-                write!(f, "{report}: {meaning}")
+                write!(f, "{fault}: {meaning}")
             }
             Failure::Sentence(sentence) => write!(f, "mitqorad: {sentence}"),
             Failure::Memory => write!(f, "mitqorad: out of memory"),

@@ -9,6 +9,7 @@ use Rattle.layout.specs.Bytes.{u16_at, u32_at}
 use Rattle.layout.specs.Faults.{first_in, extent, unless}
 use Rattle.layout.specs.Ranges.{field_size, entry_size, holds, holding, entry_faults, order_faults, array_faults}
 use Rattle.layout.proofs.Firsts.{none-parts, unless-none}
+use Rattle.layout.proofs.Order.{entry-none}
 use Rattle.table_font.specs.Cmap.{cmap_faults, Maps}
 
 pub cmap-array : (t : List ℕ) → first_in (cmap_faults t) ≡ None → first_in (array_faults GlyphsTo65535 Groups t 0 16 (u32_at t 12)) ≡ None
@@ -29,7 +30,5 @@ pub order-maps : (kind : Kind) (s i low before : ℕ) (rs : List Range) (x : ℕ
 order-maps kind s i low before [] x e = tt
 order-maps kind s i low before (r ∷ rs) x e =
     let p = none-parts (entry_faults GlyphsTo65535 kind s i low before r) (order_faults GlyphsTo65535 kind s (i + entry_size kind) (r.last + 1) (before + (r.last - r.first + 1)) rs) e in
-    let a = none-parts (unless (leb low r.first) 3 s i) _ p.0 in
-    let b = none-parts (unless (leb r.first r.last) 3 s (i + field_size kind)) _ a.1 in
-    let top = unless-none (leb (r.value + (r.last - r.first)) 65535) 4 s (i + 2 * field_size kind) b.1 in
+    let top = unless-none (leb (r.value + (r.last - r.first)) 65535) 4 s (i + 2 * field_size kind) (entry-none GlyphsTo65535 kind s i low before r p.0).2 in
     maps-by x r (holding x rs) (holds x r) refl top (order-maps kind s (i + entry_size kind) (r.last + 1) (before + (r.last - r.first + 1)) rs x p.1)

@@ -70,10 +70,7 @@ fn case(rt: &HostRuntime, line: &str) -> io::Result<()> {
     let mut font = TableFont::new();
     print!(rt; "{name}: ")?;
     match font.read(cmap.as_slice(), gdef.as_slice(), hmtx.as_slice(), metrics) {
-        Err(fault) => {
-            let report = fault.told();
-            println!(rt; "{report}")
-        }
+        Err(fault) => println!(rt; "{fault}"),
         Ok(()) => {
             print!(rt; "accepted")?;
             for question in parts.next().unwrap_or("").split_whitespace() {

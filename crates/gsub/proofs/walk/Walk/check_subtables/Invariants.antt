@@ -7,5 +7,5 @@ use Rattle.gsub.proofs.walk.Walk.check_subtables.Given as goal
 abbrev pub invariant-loop-j : goal.invariant-loop-j
 invariant-loop-j l = record {
   same : l.self ≡ l.initial.self;
-  none : None ≡ first_in (in_turn (subtable_faults_at l.self.table l.self.lookups l.k l.lookup.byte) 2 0 (l.lookup.byte + 6) l.j);
+  none : None ≡ first_in (in_turn (subtable_faults_at l.self.table l.self.lookups l.lookup.number l.lookup.start.byte) 2 0 (l.lookup.start.byte + 6) l.j);
 }
