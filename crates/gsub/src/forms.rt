@@ -93,7 +93,7 @@ impl Walk<'_> {
         self.check_each(sets, Offsets { start, array }, true)
     }
 
-    // The coverages of a rule.
+    // The coverages of a rule. As a loop over three arrays it would need a proof of its own.
     fn check_context(&mut self, rule: ContextRule) -> Result<(), StructureFault>
         ensures answer { verdict result ≡ first_in (context_coverages self.old.table rule.start.byte rule.arrays) }
         ensures same { self.new ≡ self.old }

@@ -86,6 +86,7 @@ impl Walk<'_> {
         ensures same { self.new ≡ self.old }
     {
         let offset = extension_offset(moved, self.structure(start))?;
+        // From 32 bits to `usize` there is no `From`.
         let byte = start.byte + offset as usize;
         self.check_subtable(moved, Start { byte })
     }

@@ -58,6 +58,7 @@ impl RulePlace {
     }
 }
 
+// A place and a start go into three methods; a type of the two would have a method for each of its parts.
 impl Walk<'_> {
     // The rule of the structure at `start`, by its counts and extents: of type 6 if it chains, else of type 5.
     pub(crate) fn rule(

@@ -9,6 +9,7 @@ pub enum Width {
     Four,
 }
 
+// Each width divides by a number of its own, so that a method that tells it would save nothing. From `usize` to 64 bits there is no `From`.
 impl Width {
     // Whether some bytes have room for so many fields.
     pub(crate) fn fits(self, count: u64, bytes: usize) -> bool

@@ -45,7 +45,7 @@ impl<'a> Coverage<'a> {
         self.structure.ranges(kind)
     }
 
-    // How many glyphs it has: the last one's index and one.
+    // How many glyphs it has: the last one's index and one. From 32 bits to `usize` there is no `From`.
     pub fn glyph_count(&self) -> usize
         ensures { first_in (coverage_faults self.now.structure.table.now self.now.structure.start) ≡ None → result ≡ size (coverage_ranges self.now.structure.table.now self.now.structure.start) }
     {

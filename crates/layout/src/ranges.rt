@@ -68,6 +68,7 @@ impl Kind {
         }
     }
 
+    // From 32 bits to `usize` there is no `From`.
     fn offset(self, count: u32) -> usize
         ensures size { result ≡ entry_size self * count }
         ensures bound { result ≤ 12 * count }
@@ -110,6 +111,7 @@ impl<'a> Structure<'a> {
     }
 }
 
+// That an array lies in its table and rises are conditions of what is answered, and no fact of the type, since then a caller could not ask one that he did not check himself.
 impl<'a> RangeArray<'a> {
     // All fields of the array lie in the table; else the first that does not.
     fn laid(&self) -> Result<Laid<'a>, ByteFault>
