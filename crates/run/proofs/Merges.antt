@@ -8,7 +8,7 @@ use Rattle.std.proofs.lemmas.List.{take-append-drop}
 use Rattle.model.specs.declared.Glyph.{Glyph}
 use Rattle.model.specs.Edits.{at_cluster, merged}
 use Rattle.model.specs.Laws.{Rising}
-use Rattle.run.specs.Runs.{merged_while, merged_from}
+use Rattle.run.specs.Runs.{merged_while}
 use Rattle.run.specs.Laws.{MergesWholeRun}
 
 rising-drop : (k : ℕ) (gs : List Glyph) → Rising gs → Rising (drop k gs)

@@ -1,14 +1,7 @@
--- The run of a text, and what changes make of its glyphs.
+-- What changes make of the glyphs of a run.
 use Rattle.std.specs.Prelude.{ℕ, suc, cond, List, [], ◌∷◌, ◌++◌, map, take, drop, nat_le, slice_index_or}
-use Rattle.std.specs.Borrow.{GName}
 use Rattle.model.specs.declared.Glyph.{Glyph}
 use Rattle.model.specs.Edits.{at_cluster}
-
--- What a run is to its callers: its glyphs, for how many there is room, and whose memory it is, by the ghost name of the borrow.
-pub record Content : Type 0 where
-  pub glyphs : List Glyph
-  pub room : ℕ
-  pub lender : GName
 
 -- What stands in memory behind the glyphs of a run that was closed.
 abbrev pub blank : Glyph

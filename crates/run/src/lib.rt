@@ -7,7 +7,6 @@ ghost use Rattle.run.specs.Runs.{blank, replaced, merged_while, merged_from};
 ghost use Rattle.run.specs.Laws.{MergesWholeRun};
 
 use model::Glyph;
-use std::marker::Model;
 
 // The glyphs of a text, in order. Changes come at places that move through the run, and a plain list would move all glyphs behind each of them. So the free memory lies where the last change was, as a gap: the glyphs before it stand at the front, those behind it at the end. A change moves the gap to its place first, and with it only the glyphs between the two.
 #[derive(Drop)]
@@ -16,25 +15,19 @@ pub struct Run<'a> {
     // The gap lies from `front` to `back`.
     front: usize,
     back: usize,
+    ghost gap: { (front ≤ back) × (back ≤ length slots.now) },
 }
 
-impl<'a> Model for Run<'a> {
-    ghost use Rattle.std.specs.Prelude.{◌≤◌, ◌++◌, take, drop, length};
-    ghost use Rattle.run.specs.Runs.{Content};
-
-    ghost Value = { Content };
-
-    ghost view = { λ r. record { glyphs = take r.front r.slots.now ++ drop r.back r.slots.now; room = length r.slots.now; lender = r.slots.ghost_name } };
-
-    ghost invariant = { λ r. (r.front ≤ r.back) × (r.back ≤ length r.slots.now) };
-}
-
+// The contracts speak of the glyphs alone, so that callers' proofs do not see the gap.
+#[tactic(auto, unfolding(crate::specs::Contents::glyphs_of))]
 impl<'a> Run<'a> {
+    ghost use Rattle.run.specs.Contents.{glyphs_of, room_of, lender_of};
+
     // A run of no glyphs, with room for as many as `slots` has.
     pub fn new(slots: &'a mut [Glyph]) -> Run<'a>
-        ensures glyphs { result.glyphs ≡ [] }
-        ensures room { result.room ≡ length slots.old }
-        ensures lender { result.lender ≡ slots.entry.ghost_name }
+        ensures glyphs { glyphs_of result ≡ [] }
+        ensures room { room_of result ≡ length slots.old }
+        ensures lender { lender_of result ≡ slots.entry.ghost_name }
     {
         let back = slots.len();
         Run {
@@ -45,20 +38,20 @@ impl<'a> Run<'a> {
     }
 
     pub fn len(&self) -> usize
-        ensures len { result ≡ length self.now.glyphs }
-        ensures fits { result ≤ self.now.room }
+        ensures len { result ≡ length (glyphs_of self.now) }
+        ensures fits { result ≤ room_of self.now }
     {
         self.front + (self.slots.len() - self.back)
     }
 
     pub fn room(&self) -> usize
-        ensures { result ≡ self.now.room }
+        ensures { result ≡ room_of self.now }
     {
         self.slots.len()
     }
 
     pub fn get(&self, i: usize) -> Option<Glyph>
-        ensures { result ≡ slice_get self.now.glyphs i }
+        ensures { result ≡ slice_get (glyphs_of self.now) i }
     {
         if i < self.front {
             Some(self.slots[i])
@@ -71,30 +64,30 @@ impl<'a> Run<'a> {
 
     // Adds a glyph behind the last; hands it back where there is no room.
     pub fn push(&mut self, glyph: Glyph) -> Result<(), Glyph>
-        ensures ok { IsOk result ↔ (length self.old.glyphs < self.old.room) }
-        ensures pushed { OnOk result (self.new.glyphs ≡ self.old.glyphs ++ glyph ∷ []) }
+        ensures ok { IsOk result ↔ (length (glyphs_of self.old) < room_of self.old) }
+        ensures pushed { OnOk result (glyphs_of self.new ≡ glyphs_of self.old ++ glyph ∷ []) }
         ensures handed_back { IfErr result (λ back. back ≡ glyph) }
-        ensures unchanged { OnErr result (self.new.glyphs ≡ self.old.glyphs) }
-        ensures room { self.new.room ≡ self.old.room }
-        ensures lender { self.new.lender ≡ self.old.lender }
+        ensures unchanged { OnErr result (glyphs_of self.new ≡ glyphs_of self.old) }
+        ensures room { room_of self.new ≡ room_of self.old }
+        ensures lender { lender_of self.new ≡ lender_of self.old }
     {
         if self.front == self.back {
             return Err(glyph);
         }
-        let len = self.len();
-        self.back = move_gap(self.slots, self.front, self.back, len);
-        self.slots[len] = glyph;
-        self.front = len + 1;
+        let last = self.len();
+        self.back = move_gap(self.slots, self.front, self.back, last);
+        self.slots[last] = glyph;
+        self.front = last + 1;
         Ok(())
     }
 
     // The glyph at `i` gives way to these, which have its cluster. False where there is no such glyph or no room.
     pub fn replace(&mut self, i: usize, glyphs: &[u16]) -> bool
-        ensures answer { result ≡ (nat_lt i (length self.old.glyphs) && nat_le (length self.old.glyphs + length glyphs.now) (self.old.room + 1)) }
-        ensures glyphs { self.new.glyphs ≡ (if result then replaced i glyphs.now self.old.glyphs else self.old.glyphs) }
-        ensures fits { length self.old.glyphs ≤ self.old.room }
-        ensures room { self.new.room ≡ self.old.room }
-        ensures lender { self.new.lender ≡ self.old.lender }
+        ensures answer { result ≡ (nat_lt i (length (glyphs_of self.old)) && nat_le (length (glyphs_of self.old) + length glyphs.now) (room_of self.old + 1)) }
+        ensures glyphs { glyphs_of self.new ≡ (if result then replaced i glyphs.now (glyphs_of self.old) else glyphs_of self.old) }
+        ensures fits { length (glyphs_of self.old) ≤ room_of self.old }
+        ensures room { room_of self.new ≡ room_of self.old }
+        ensures lender { lender_of self.new ≡ lender_of self.old }
     {
         if i >= self.len() || glyphs.len() > self.back - self.front + 1 {
             return false;
@@ -108,19 +101,19 @@ impl<'a> Run<'a> {
     }
 
     pub fn remove(&mut self, i: usize) -> bool
-        ensures answer { result ≡ nat_lt i (length self.old.glyphs) }
-        ensures glyphs { self.new.glyphs ≡ (if result then remove self.old.glyphs i else self.old.glyphs) }
-        ensures room { self.new.room ≡ self.old.room }
-        ensures lender { self.new.lender ≡ self.old.lender }
+        ensures answer { result ≡ nat_lt i (length (glyphs_of self.old)) }
+        ensures glyphs { glyphs_of self.new ≡ (if result then remove (glyphs_of self.old) i else glyphs_of self.old) }
+        ensures room { room_of self.new ≡ room_of self.old }
+        ensures lender { lender_of self.new ≡ lender_of self.old }
     {
         self.replace(i, &[])
     }
 
     // From position `i` on, as long as a glyph's cluster is at most `hi`, it becomes `lo`.
     pub fn merge(&mut self, i: usize, lo: u32, hi: u32)
-        ensures glyphs { self.new.glyphs ≡ merged_from i lo hi self.old.glyphs }
-        ensures room { self.new.room ≡ self.old.room }
-        ensures lender { self.new.lender ≡ self.old.lender }
+        ensures glyphs { glyphs_of self.new ≡ merged_from i lo hi (glyphs_of self.old) }
+        ensures room { room_of self.new ≡ room_of self.old }
+        ensures lender { lender_of self.new ≡ lender_of self.old }
     {
         if i < self.len() {
             let back = move_gap(self.slots, self.front, self.back, i);
@@ -130,10 +123,9 @@ impl<'a> Run<'a> {
         }
     }
 
-    // Hands the memory back: the glyphs, and blank ones behind them.
-    pub fn close(self) -> &'a mut [Glyph]
-        ensures lender { result.ghost_name ≡ self.entry.lender }
-        ensures memory { result.now ≡ self.entry.glyphs ++ replicate (self.entry.room - length self.entry.glyphs) blank }
+    // Leaves the glyphs at the front of the memory that was lent, and blank ones behind them.
+    pub fn close(self)
+        ensures memory { self.exit.0.now ≡ glyphs_of self.entry ++ replicate (room_of self.entry - length (glyphs_of self.entry)) blank }
     {
         let len = self.len();
         let Run { slots, front, back } = self;
@@ -142,7 +134,6 @@ impl<'a> Run<'a> {
             glyph: 0,
             cluster: 0,
         });
-        slots
     }
 }
 
@@ -191,3 +182,83 @@ fn merge_while(slots: &mut [Glyph], lo: u32, hi: u32)
 pub fn merges_whole_run()
     ensures { MergesWholeRun }
 {}
+
+#[cfg(test)]
+mod tests {
+    use super::*;
+    use std::process::Abort;
+    use std::test::Fail;
+
+    // A caller knows what its memory holds once the run is closed.
+    fn lay_one(slots: &mut [Glyph], glyph: Glyph) -> Result<(), Glyph>
+        ensures laid { OnOk result (slots.new ≡ glyph ∷ replicate (length slots.old - 1) blank) }
+        ensures ok { IsOk result ↔ (0 < length slots.old) }
+    {
+        let mut run = Run::new(slots);
+        let laid = run.push(glyph);
+        run.close();
+        laid
+    }
+
+    fn glyph(glyph: u16, cluster: u32) -> Glyph {
+        Glyph { glyph, cluster }
+    }
+
+    fn check(rt: &impl Abort, run: &Run<'_>, glyphs: &[(u16, u32)]) {
+        assert_eq!(rt; run.len(), glyphs.len());
+        for (i, &(number, cluster)) in glyphs.iter().enumerate() {
+            let found = run.get(i);
+            assert_eq!(rt; found.map(|found| found.glyph), Some(number));
+            assert_eq!(rt; found.map(|found| found.cluster), Some(cluster));
+        }
+    }
+
+    // The lists are worked out by hand.
+    #[test]
+    fn a_small_history(rt: HostRuntime) -> Result<(), Fail> {
+        let mut slots = [glyph(99, 99); 6];
+        let mut run = Run::new(&mut slots);
+        assert_eq!(rt; run.room(), 6);
+        check(&rt, &run, &[]);
+        for (number, cluster) in [(1, 0), (2, 1), (3, 2)] {
+            assert!(rt; run.push(glyph(number, cluster)).is_ok());
+        }
+        assert!(rt; run.replace(1, &[7, 8]));
+        check(&rt, &run, &[(1, 0), (7, 1), (8, 1), (3, 2)]);
+        assert!(rt; !run.replace(0, &[4, 5, 6, 7]));
+        assert!(rt; run.remove(2));
+        run.merge(1, 1, 2);
+        check(&rt, &run, &[(1, 0), (7, 1), (3, 1)]);
+        for (number, cluster) in [(4, 3), (5, 4), (6, 5)] {
+            assert!(rt; run.push(glyph(number, cluster)).is_ok());
+        }
+        assert!(rt; run.push(glyph(7, 6)).is_err());
+        assert!(rt; run.replace(0, &[10]));
+        assert!(rt; !run.remove(6));
+        assert!(rt; run.get(6).is_none());
+        run.merge(2, 1, 3);
+        check(
+            &rt,
+            &run,
+            &[(10, 0), (7, 1), (3, 1), (4, 1), (5, 4), (6, 5)],
+        );
+        assert!(rt; run.remove(5));
+        run.close();
+        let numbers = [10, 7, 3, 4, 5, 0];
+        assert_eq!(rt; slots.len(), numbers.len());
+        for (slot, number) in slots.iter().zip(numbers) {
+            assert_eq!(rt; slot.glyph, number);
+        }
+        Ok(())
+    }
+
+    #[test]
+    fn a_caller_knows_its_memory(rt: HostRuntime) -> Result<(), Fail> {
+        let mut slots = [glyph(99, 99); 2];
+        assert!(rt; lay_one(&mut slots, glyph(1, 0)).is_ok());
+        assert_eq!(rt; slots[0].glyph, 1);
+        assert_eq!(rt; slots[1].glyph, 0);
+        assert!(rt; lay_one(&mut [], glyph(1, 0)).is_err());
+        Ok(())
+    }
+}
