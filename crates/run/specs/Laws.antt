@@ -6,7 +6,7 @@ use Rattle.model.specs.Edits.{merged}
 use Rattle.model.specs.Laws.{Rising}
 use Rattle.run.specs.Runs.{merged_from}
 
--- Where clusters never fall, those before i are at most lo, and the others at least lo.
+-- Where clusters never fall, and are at most lo before i and at least lo from i on.
 abbrev pub MergesWholeRun : Type 0
 MergesWholeRun =
     (i lo hi : ℕ) (gs : List Glyph) → Rising gs → AllByRecursion (λ g. g.cluster ≤ lo) (take i gs) → AllByRecursion (λ g. lo ≤ g.cluster) (drop i gs) → merged_from i lo hi gs ≡ map (merged lo hi) gs

@@ -8,7 +8,9 @@ ghost use Rattle.run.specs.Laws.{MergesWholeRun};
 
 use model::Glyph;
 
-// The glyphs of a text, in order. Changes come at places that move through the run, and a plain list would move all glyphs behind each of them. So the free memory lies where the last change was, as a gap: the glyphs before it stand at the front, those behind it at the end. A change moves the gap to its place first, and with it only the glyphs between the two.
+// The glyphs of a text, in order. Changes come at places that move through the run, and a plain list would move all glyphs behind each of them. So the free memory lies as a gap where the last change was: the glyphs before it stand at the front of the memory, those behind it at its end. A change moves the gap to its place first, and with it the glyphs between the two places and no more.
+//
+// It has no `impl Model`: of a value that contracts see only as a whole, a lender does not learn what it leaves in the memory. Contracts speak through `specs/Contents.antt` instead.
 #[derive(Drop)]
 pub struct Run<'a> {
     slots: &'a mut [Glyph],
@@ -18,7 +20,7 @@ pub struct Run<'a> {
     ghost gap: { (front ≤ back) × (back ≤ length slots.now) },
 }
 
-// The contracts speak of the glyphs alone, so that callers' proofs do not see the gap.
+// That the glyphs are two parts of the memory is seen here and by no caller.
 #[tactic(auto, unfolding(crate::specs::Contents::glyphs_of))]
 impl<'a> Run<'a> {
     ghost use Rattle.run.specs.Contents.{glyphs_of, room_of, lender_of};
@@ -62,7 +64,7 @@ impl<'a> Run<'a> {
         }
     }
 
-    // Adds a glyph behind the last; hands it back where there is no room.
+    // Adds a glyph behind the last, or hands it back where there is no room. After a change elsewhere the gap moves to the end first.
     pub fn push(&mut self, glyph: Glyph) -> Result<(), Glyph>
         ensures ok { IsOk result ↔ (length (glyphs_of self.old) < room_of self.old) }
         ensures pushed { OnOk result (glyphs_of self.new ≡ glyphs_of self.old ++ glyph ∷ []) }
@@ -81,7 +83,7 @@ impl<'a> Run<'a> {
         Ok(())
     }
 
-    // The glyph at `i` gives way to these, which have its cluster. False where there is no such glyph or no room.
+    // The glyph at `i` gives way to these, which have its cluster; where they are none, it is removed. False where there is no such glyph, or no room.
     pub fn replace(&mut self, i: usize, glyphs: &[u16]) -> bool
         ensures answer { result ≡ (nat_lt i (length (glyphs_of self.old)) && nat_le (length (glyphs_of self.old) + length glyphs.now) (room_of self.old + 1)) }
         ensures glyphs { glyphs_of self.new ≡ (if result then replaced i glyphs.now (glyphs_of self.old) else glyphs_of self.old) }
@@ -123,7 +125,7 @@ impl<'a> Run<'a> {
         }
     }
 
-    // Leaves the glyphs at the front of the memory that was lent, and blank ones behind them.
+    // Leaves the glyphs at the front of the lent memory, which is `self.exit.0`, and blank ones behind them.
     pub fn close(self)
         ensures memory { self.exit.0.now ≡ glyphs_of self.entry ++ replicate (room_of self.entry - length (glyphs_of self.entry)) blank }
     {
@@ -167,6 +169,7 @@ fn write(slots: &mut [Glyph], at: usize, glyphs: &[u16], cluster: u32)
     }
 }
 
+// As long as a glyph's cluster is at most `hi`, it becomes `lo`.
 fn merge_while(slots: &mut [Glyph], lo: u32, hi: u32)
     ensures { slots.new ≡ merged_while lo hi slots.old }
 {
@@ -178,7 +181,7 @@ fn merge_while(slots: &mut [Glyph], lo: u32, hi: u32)
     }
 }
 
-// Where clusters never fall, merging from the first glyph of the lowest cluster on is merging in the whole run.
+// Where clusters never fall, and are at most `lo` before a position and at least `lo` from it on, merging from there is merging in the whole run.
 pub fn merges_whole_run()
     ensures { MergesWholeRun }
 {}
