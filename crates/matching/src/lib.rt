@@ -1,0 +1,5 @@
+// What a lookup passes over, and the next glyph that it does not.
+#![tactic(auto)]
+
+pub mod glyphs;
+pub mod passing;
