@@ -1,1 +1,2 @@
 mod Nexts
+mod Seeks

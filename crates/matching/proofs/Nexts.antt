@@ -7,7 +7,7 @@ use Rattle.std.proofs.Math.Option.{Option as Perhaps, none, some, map}
 use Rattle.model.specs.declared.Glyph.{Glyph}
 use Rattle.model.specs.Lookups.{Met, later, seek}
 use Rattle.matching.specs.declared.passing.Next.{Next}
-use Rattle.matching.specs.Next.{later_by, next_in, met_by, SeekByNext}
+use Rattle.matching.specs.Next.{later_by, next_in}
 
 drop-at : (gs : List Glyph) (i : ℕ) (g : Glyph) → slice_get gs i ≡ Some g → drop i gs ≡ g ∷ drop (i + 1) gs
 drop-at gs i g e = drop_more gs i g (slice_get_within gs i g e) ∙ ap (λ x. x ∷ drop (i + 1) gs) (get_or_from_slice_get gs i g g e)
@@ -48,7 +48,12 @@ next-first skips gs from =
     let z : 0 ≡ from - from = omega arith in
     sym (later_by-0 (next_in skips (drop from gs))) ∙ ap (λ n. later_by n (next_in skips (drop from gs))) z
 
--- the search for entries, by the next glyph
+-- the search for an entry, and for others behind it: the next glyph meets the entry, or nothing does
+abbrev pub met_by : (entry : ℕ → Bool) → (others : List Glyph → Perhaps (List Met)) → List Glyph → Option Next → Perhaps (List Met)
+met_by entry others gs None = none
+met_by entry others gs (Some next) =
+    cond (entry next.glyph.glyph) (map (λ ms. record { gap = next.gap; cluster = next.glyph.cluster } ∷ ms) (others (drop (suc next.gap) gs))) none
+
 later-map : (next : Next) (r : Perhaps (List Met)) → later (map (λ ms. record { gap = next.gap; cluster = next.glyph.cluster } ∷ ms) r) ≡ map (λ ms. record { gap = 1 + next.gap; cluster = next.glyph.cluster } ∷ ms) r
 later-map next none = refl
 later-map next (some ms) = let e : suc next.gap ≡ 1 + next.gap = omega arith in ap (λ n. some (record { gap = n; cluster = next.glyph.cluster } ∷ ms)) e
@@ -72,6 +77,6 @@ seek-by : (skips entry : ℕ → Bool) (entries : List (ℕ → Bool)) (g : Glyp
 seek-by skips entry entries g gs true e = ap later e ∙ later-next entry (seek skips entries) g gs (next_in skips gs)
 seek-by skips entry entries g gs false e = refl
 
-pub seek-next : SeekByNext
+pub seek-next : (skips entry : ℕ → Bool) (entries : List (ℕ → Bool)) (gs : List Glyph) → seek skips (entry ∷ entries) gs ≡ met_by entry (seek skips entries) gs (next_in skips gs)
 seek-next skips entry entries [] = refl
 seek-next skips entry entries (g ∷ gs) = seek-by skips entry entries g gs (skips g.glyph) (seek-next skips entry entries gs)

@@ -3,3 +3,6 @@
 
 pub mod glyphs;
 pub mod passing;
+pub mod seek;
+#[cfg(test)]
+mod tests;

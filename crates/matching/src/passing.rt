@@ -1,5 +1,5 @@
-ghost use Rattle.std.specs.Prelude.{◌≡◌, ◌==◌, cond, false, drop};
-ghost use Rattle.matching.specs.Next.{skips, next_in, SeekByNext};
+ghost use Rattle.std.specs.Prelude.{◌≡◌, ◌+◌, ◌-◌, ◌^◌, ◌<◌, drop, IfSome};
+ghost use Rattle.matching.specs.Next.{skips, next_in};
 
 use crate::glyphs::Glyphs;
 use font::glyph_class::GlyphClass;
@@ -50,7 +50,8 @@ impl<S: FontSource> Passing<'_, S> {
 
     // The next glyph from an index on that the lookup does not pass over.
     pub fn next<G: Glyphs>(&self, glyphs: &G, from: usize) -> Option<Next>
-        ensures { result ≡ next_in (skips (S.FontSource.means self.now.source.now) self.now.flag self.now.mark_set) (drop from (G.Glyphs.glyphs glyphs.now)) }
+        ensures near { IfSome result (λ next. from + next.gap < 2 ^ 64 - 1) }
+        ensures next { result ≡ next_in (skips (S.FontSource.means self.now.source.now) self.now.flag self.now.mark_set) (drop from (G.Glyphs.glyphs glyphs.now)) }
     {
         for i in from..glyphs.len() {
             let glyph = glyphs.get(i)?;
@@ -62,85 +63,5 @@ impl<S: FontSource> Passing<'_, S> {
             }
         }
         None
-    }
-}
-
-// A search for entries goes from one such glyph to the next.
-pub fn seek_by_next()
-    ensures { SeekByNext }
-{}
-
-#[cfg(test)]
-mod tests {
-    use super::*;
-    use crate::glyphs::{Ahead, Back};
-    use run::Run;
-    use std::test::Fail;
-
-    // A font in which glyph 3 is a mark and no other glyph has a class.
-    #[derive(Drop)]
-    struct OneMark;
-
-    impl FontSource for OneMark {
-        ghost means = { λ _. record { glyph = λ c. 0; class = λ g. cond (g == 3) 3 0; mark_class = λ g. 0; in_mark_set = λ k g. false } };
-
-        fn glyph(&self, _character: u32) -> u16 {
-            0
-        }
-
-        fn class(&self, glyph: u16) -> Option<GlyphClass> {
-            if glyph == 3 {
-                Some(GlyphClass::Mark)
-            } else {
-                None
-            }
-        }
-
-        fn mark_class(&self, _glyph: u16) -> u16 {
-            0
-        }
-
-        fn in_mark_set(&self, _set: u16, _glyph: u16) -> bool {
-            false
-        }
-    }
-
-    // Glyphs 1, mark, mark, 2: under flag 8 the next of each is the other.
-    #[test]
-    fn marks_are_passed_over(rt: HostRuntime) -> Result<(), Fail> {
-        let mut slots = [Glyph {
-            glyph: 0,
-            cluster: 0,
-        }; 4];
-        let mut run = Run::new(&mut slots);
-        for (glyph, cluster) in [(1, 0), (3, 1), (3, 2), (2, 3)] {
-            assert!(rt; run.push(Glyph { glyph, cluster }).is_ok());
-        }
-        let font = OneMark;
-        let passing = Passing {
-            source: &font,
-            flag: 8,
-            mark_set: 0,
-        };
-        let ahead = passing.next(&Ahead { run: &run, from: 1 }, 0);
-        assert_eq!(rt;
-            ahead.map(|next| (next.gap, next.glyph.cluster)),
-            Some((2, 3))
-        );
-        let back = passing.next(
-            &Back {
-                run: &run,
-                before: 3,
-            },
-            0,
-        );
-        assert_eq!(rt;
-            back.map(|next| (next.gap, next.glyph.cluster)),
-            Some((2, 0))
-        );
-        let none = passing.next(&Ahead { run: &run, from: 1 }, 3);
-        assert!(rt; none.is_none());
-        run.close();
-        Ok(())
     }
 }

@@ -1,0 +1,97 @@
+ghost use Rattle.std.specs.Prelude.{◌==◌, cond, false, [], ◌∷◌, nat_eq};
+
+use crate::glyphs::{Ahead, Back};
+use crate::passing::Passing;
+use crate::seek::Entries;
+use font::glyph_class::GlyphClass;
+use font::source::FontSource;
+use model::Glyph;
+use run::Run;
+use std::test::Fail;
+
+// A font in which glyph 3 is a mark and no other glyph has a class.
+#[derive(Drop)]
+struct OneMark;
+
+impl FontSource for OneMark {
+    ghost means = { λ _. record { glyph = λ c. 0; class = λ g. cond (g == 3) 3 0; mark_class = λ g. 0; in_mark_set = λ k g. false } };
+
+    fn glyph(&self, _character: u32) -> u16 {
+        0
+    }
+
+    fn class(&self, glyph: u16) -> Option<GlyphClass> {
+        if glyph == 3 {
+            Some(GlyphClass::Mark)
+        } else {
+            None
+        }
+    }
+
+    fn mark_class(&self, _glyph: u16) -> u16 {
+        0
+    }
+
+    fn in_mark_set(&self, _set: u16, _glyph: u16) -> bool {
+        false
+    }
+}
+
+// One entry, which asks for a glyph.
+#[derive(Drop)]
+struct Same(u16);
+
+impl Entries for Same {
+    ghost tests = { λ same. (λ g. nat_eq g same.0) ∷ [] };
+
+    fn len(&self) -> usize {
+        1
+    }
+
+    fn meets(&self, k: usize, glyph: u16) -> bool {
+        k == 0 && glyph == self.0
+    }
+}
+
+// Glyph 1, two marks, glyph 2, each with its place as its cluster; under flag 8 the marks are passed over.
+#[test]
+fn marks_are_passed_over(rt: HostRuntime) -> Result<(), Fail> {
+    let mut slots = [Glyph {
+        glyph: 0,
+        cluster: 0,
+    }; 4];
+    let mut run = Run::new(&mut slots);
+    for (glyph, cluster) in [(1, 0), (3, 1), (3, 2), (2, 3)] {
+        assert!(rt; run.push(Glyph { glyph, cluster }).is_ok());
+    }
+    let font = OneMark;
+    let passing = Passing {
+        source: &font,
+        flag: 8,
+        mark_set: 0,
+    };
+    let ahead = Ahead { run: &run, from: 1 };
+    let back = Back {
+        run: &run,
+        before: 3,
+    };
+    let next = passing.next(&ahead, 0);
+    assert_eq!(rt;
+        next.map(|next| (next.gap, next.glyph.cluster)),
+        Some((2, 3))
+    );
+    let next = passing.next(&back, 0);
+    assert_eq!(rt;
+        next.map(|next| (next.gap, next.glyph.cluster)),
+        Some((2, 0))
+    );
+    assert!(rt; passing.next(&ahead, 3).is_none());
+    let mut met = [9];
+    assert!(rt; passing.seek(&ahead, 0, &Same(2), &mut met));
+    assert_eq!(rt; met, [2]);
+    assert!(rt; passing.seek(&back, 0, &Same(1), &mut met));
+    assert!(rt; !passing.seek(&ahead, 0, &Same(1), &mut met));
+    assert!(rt; !passing.seek(&ahead, 0, &Same(3), &mut met));
+    run.close();
+    Ok(())
+}
