@@ -3,10 +3,11 @@ use Rattle.std.proofs.Common.{◌≡◌, ℕ, suc, ◌+◌, ◌-◌, ◌<◌, �
 use Rattle.std.proofs.lemmas.List.{drop_more, drop_all, drop-drop, get_or-drop, append-nil}
 use Rattle.std.proofs.Math.Option.{Option as Perhaps, none, some, map}
 use Rattle.model.specs.declared.Glyph.{Glyph}
-use Rattle.model.specs.Lookups.{Met, seek}
+use Rattle.model.specs.Lookups.{Met, far, seek}
 use Rattle.matching.specs.declared.passing.Next.{Next}
 use Rattle.matching.specs.Next.{later_by, next_in}
-use Rattle.matching.specs.Seek.{meets, glyph_at, mets_at}
+use Rattle.matching.specs.declared.seek.Reached.{Reached}
+use Rattle.matching.specs.Seek.{meets, glyph_at, mets_at, ends, reached_by}
 use Rattle.matching.proofs.Nexts.{met_by, seek-next}
 
 -- where the search goes on after the glyphs met
@@ -50,53 +51,89 @@ next-at : (skips : ℕ → Bool) (gs : List Glyph) (next : Next) → next_in ski
 next-at skips [] next e = absurd cc
 next-at skips (g ∷ gs) next e = next-is skips g gs (skips g.glyph) (next_in skips gs) next (next-at skips gs) e
 
-module _ (skips : ℕ → Bool) (tests : List (ℕ → Bool)) (gs : List Glyph) (from k at : ℕ) (qs : List ℕ) where
-  -- what is left gives the whole
-  abbrev pub Sought : Type 0
-  Sought = (at ≡ past from qs) × (seek skips tests (drop from gs) ≡ behind (mets_at gs from qs) (seek skips (drop k tests) (drop at gs)))
+ends-more : (i : ℕ) (ms : List Met) (m : Met) → ends i (ms ++ m ∷ []) ≡ ends i ms + m.gap + 1
+ends-more i [] m = refl
+ends-more i (x ∷ ms) m = ends-more (i + x.gap + 1) ms m
 
-  pub sought-first : seek skips tests (drop from gs) ≡ behind [] (seek skips (drop 0 tests) (drop from gs))
-  sought-first = sym (behind-none (seek skips tests (drop from gs)))
+far-more : (own : ℕ) (ms : List Met) (m : Met) → far own (ms ++ m ∷ []) ≡ m.cluster
+far-more own [] m = refl
+far-more own (x ∷ ms) m = far-more x.cluster ms m
+
+pub sought-first : (skips : ℕ → Bool) (tests : List (ℕ → Bool)) (gs : List Glyph) (from : Reached) → seek skips tests (drop from.at gs) ≡ behind [] (seek skips tests (drop from.at gs))
+sought-first skips tests gs from = sym (behind-none (seek skips tests (drop from.at gs)))
+
+module _ (skips : ℕ → Bool) (tests : List (ℕ → Bool)) (gs : List Glyph) (from so_far : Reached) (k room : ℕ) (qs : List ℕ) where
+  -- what was met so far, and that what is left gives the whole; the indices met, where there is room for them
+  abbrev pub Sought : Type 0
+  Sought =
+      (ms : List Met)
+      × (so_far.at ≡ ends from.at ms)
+      × (so_far.far ≡ far from.far ms)
+      × (seek skips tests (drop from.at gs) ≡ behind ms (seek skips (drop k tests) (drop so_far.at gs)))
+      × (length tests ≤ room → (so_far.at ≡ past from.at qs) × (ms ≡ mets_at gs from.at qs))
 
   module _ (sought : Sought) (more : k < length tests) where
     abbrev test : ℕ → Bool
     test = get_or tests k (λ g. false)
 
-    here : seek skips (drop k tests) (drop at gs) ≡ met_by test (seek skips (drop (k + 1) tests)) (drop at gs) (next_in skips (drop at gs))
-    here = ap (λ ts. seek skips ts (drop at gs)) (drop_more tests k (λ g. false) more) ∙ seek-next skips test (drop (k + 1) tests) (drop at gs)
+    here : seek skips (drop k tests) (drop so_far.at gs) ≡ met_by test (seek skips (drop (k + 1) tests)) (drop so_far.at gs) (next_in skips (drop so_far.at gs))
+    here = ap (λ ts. seek skips ts (drop so_far.at gs)) (drop_more tests k (λ g. false) more) ∙ seek-next skips test (drop (k + 1) tests) (drop so_far.at gs)
 
     -- no glyph is left
-    pub sought-none : None ≡ next_in skips (drop at gs) → seek skips tests (drop from gs) ≡ none
-    sought-none e = sought.1 ∙ ap (behind (mets_at gs from qs)) (here ∙ ap (met_by test (seek skips (drop (k + 1) tests)) (drop at gs)) (sym e))
+    pub sought-none : None ≡ next_in skips (drop so_far.at gs) → None ≡ reached_by from (seek skips tests (drop from.at gs))
+    sought-none e = sym (ap (reached_by from) (sought.3 ∙ ap (behind sought.0) (here ∙ ap (met_by test (seek skips (drop (k + 1) tests)) (drop so_far.at gs)) (sym e))))
 
-    module _ (next : Next) (is : next_in skips (drop at gs) ≡ Some next) where
-      by : seek skips (drop k tests) (drop at gs) ≡ cond (meets tests k next.glyph.glyph) (map (λ ms. record { gap = next.gap; cluster = next.glyph.cluster } ∷ ms) (seek skips (drop (k + 1) tests) (drop (suc next.gap) (drop at gs)))) none
-      by = here ∙ ap (met_by test (seek skips (drop (k + 1) tests)) (drop at gs)) is
+    module _ (next : Next) (is : next_in skips (drop so_far.at gs) ≡ Some next) where
+      by : seek skips (drop k tests) (drop so_far.at gs) ≡ cond (meets tests k next.glyph.glyph) (map (λ ms. record { gap = next.gap; cluster = next.glyph.cluster } ∷ ms) (seek skips (drop (k + 1) tests) (drop (suc next.gap) (drop so_far.at gs)))) none
+      by = here ∙ ap (met_by test (seek skips (drop (k + 1) tests)) (drop so_far.at gs)) is
 
       -- the next one does not meet the entry
-      pub sought-not : meets tests k next.glyph.glyph ≡ false → seek skips tests (drop from gs) ≡ none
-      sought-not e = sought.1 ∙ ap (behind (mets_at gs from qs)) (by ∙ ap (λ b. cond b (map (λ ms. record { gap = next.gap; cluster = next.glyph.cluster } ∷ ms) (seek skips (drop (k + 1) tests) (drop (suc next.gap) (drop at gs)))) none) e)
+      pub sought-not : meets tests k next.glyph.glyph ≡ false → None ≡ reached_by from (seek skips tests (drop from.at gs))
+      sought-not e =
+          sym (ap (reached_by from) (sought.3 ∙ ap (behind sought.0) (by ∙ ap (λ b. cond b (map (λ ms. record { gap = next.gap; cluster = next.glyph.cluster } ∷ ms) (seek skips (drop (k + 1) tests) (drop (suc next.gap) (drop so_far.at gs)))) none) e)))
 
-      -- it does: on to the next entry
-      pub sought-on : meets tests k next.glyph.glyph ≡ true
-          → (at + next.gap + 1 ≡ past from (qs ++ (at + next.gap) ∷ []))
-          × (seek skips tests (drop from gs) ≡ behind (mets_at gs from (qs ++ (at + next.gap) ∷ [])) (seek skips (drop (k + 1) tests) (drop (at + next.gap + 1) gs)))
-      sought-on e =
-          let index : ℕ = at + next.gap in
-          let m : Met = record { gap = next.gap; cluster = next.glyph.cluster } in
-          let gap : next.gap ≡ index - past from qs = omega (arith, sought.0) in
-          let glyph : next.glyph ≡ glyph_at gs index = sym (next-at skips (drop at gs) next is) ∙ get_or-drop at gs next.gap (record { glyph = 0; cluster = 0 }) in
-          let met : m ≡ record { gap = index - past from qs; cluster = (glyph_at gs index).cluster } = cc in
-          let on : at + suc next.gap ≡ index + 1 = omega arith in
-          let end : index + 1 ≡ suc index = omega arith in (
-            end ∙ sym (past-more from qs index),
-            sought.1 ∙ ap (behind (mets_at gs from qs)) (by ∙ ap (λ b. cond b (map (λ ms. m ∷ ms) (seek skips (drop (k + 1) tests) (drop (suc next.gap) (drop at gs)))) none) e)
-                ∙ ap (λ l. behind (mets_at gs from qs) (map (λ ms. m ∷ ms) (seek skips (drop (k + 1) tests) l))) (drop-drop (suc next.gap) at gs ∙ ap (λ n. drop n gs) on)
-                ∙ behind-more (mets_at gs from qs) m (seek skips (drop (k + 1) tests) (drop (index + 1) gs))
-                ∙ ap (λ xs. behind xs (seek skips (drop (k + 1) tests) (drop (index + 1) gs))) (ap (λ x. mets_at gs from qs ++ x ∷ []) met ∙ sym (mets-more gs from qs index)),
-          )
+-- it does: on to the next entry
+module _ (skips : ℕ → Bool) (tests : List (ℕ → Bool)) (gs : List Glyph) (from so_far : Reached) (k room : ℕ) (qs : List ℕ) (sought : Sought skips tests gs from so_far k room qs) (more : k < length tests) (next : Next) (is : next_in skips (drop so_far.at gs) ≡ Some next) (met : meets tests k next.glyph.glyph ≡ true) (qs' : List ℕ) (noted : length tests ≤ room → qs' ≡ qs ++ (so_far.at + next.gap) ∷ []) where
+  abbrev index : ℕ
+  index = so_far.at + next.gap
 
-  -- all entries are met
-  pub sought-all : Sought → length tests ≤ k → seek skips tests (drop from gs) ≡ some (mets_at gs from qs)
-  sought-all sought all =
-      sought.1 ∙ ap (λ ts. behind (mets_at gs from qs) (seek skips ts (drop at gs))) (drop_all k tests all) ∙ ap some (append-nil (mets_at gs from qs))
+  abbrev m : Met
+  m = record { gap = next.gap; cluster = next.glyph.cluster }
+
+  indices : (fits : length tests ≤ room) → (index + 1 ≡ past from.at qs') × (sought.0 ++ m ∷ [] ≡ mets_at gs from.at qs')
+  indices fits =
+      let old = sought.4 fits in
+      let gap : next.gap ≡ index - past from.at qs = omega (arith, old.0) in
+      let glyph : next.glyph ≡ glyph_at gs index = sym (next-at skips (drop so_far.at gs) next is) ∙ get_or-drop so_far.at gs next.gap (record { glyph = 0; cluster = 0 }) in
+      let same : m ≡ record { gap = index - past from.at qs; cluster = (glyph_at gs index).cluster } = cc in
+      let end : index + 1 ≡ suc index = omega arith in (
+        end ∙ sym (past-more from.at qs index) ∙ ap (past from.at) (sym (noted fits)),
+        ap (λ xs. xs ++ m ∷ []) old.1 ∙ ap (λ x. mets_at gs from.at qs ++ x ∷ []) same ∙ sym (mets-more gs from.at qs index) ∙ ap (mets_at gs from.at) (sym (noted fits)),
+      )
+
+  pub sought-on : Sought skips tests gs from (record { at = index + 1; far = next.glyph.cluster }) (k + 1) room qs'
+  sought-on =
+      let on : so_far.at + suc next.gap ≡ index + 1 = omega arith in
+      let end : index + 1 ≡ ends from.at (sought.0 ++ m ∷ []) = omega (arith, sought.1, ends-more from.at sought.0 m) in (
+        sought.0 ++ m ∷ [],
+        end,
+        sym (far-more from.far sought.0 m),
+        sought.3 ∙ ap (behind sought.0) (by skips tests gs from so_far k room qs sought more next is ∙ ap (λ b. cond b (map (λ ms. m ∷ ms) (seek skips (drop (k + 1) tests) (drop (suc next.gap) (drop so_far.at gs)))) none) met)
+            ∙ ap (λ l. behind sought.0 (map (λ ms. m ∷ ms) (seek skips (drop (k + 1) tests) l))) (drop-drop (suc next.gap) so_far.at gs ∙ ap (λ n. drop n gs) on)
+            ∙ behind-more sought.0 m (seek skips (drop (k + 1) tests) (drop (index + 1) gs)),
+        indices,
+      )
+
+-- all entries are met
+module _ (skips : ℕ → Bool) (tests : List (ℕ → Bool)) (gs : List Glyph) (from so_far : Reached) (k room : ℕ) (qs : List ℕ) (sought : Sought skips tests gs from so_far k room qs) (all : length tests ≤ k) where
+  met-all : seek skips tests (drop from.at gs) ≡ some sought.0
+  met-all = sought.3 ∙ ap (λ ts. behind sought.0 (seek skips ts (drop so_far.at gs))) (drop_all k tests all) ∙ ap some (append-nil sought.0)
+
+  pub sought-all : Some so_far ≡ reached_by from (seek skips tests (drop from.at gs))
+  sought-all =
+      let ended : Some so_far ≡ Some (record { at = ends from.at sought.0; far = far from.far sought.0 }) =
+      ap (λ i. Some (record { at = i; far = so_far.far })) sought.1 ∙ ap (λ c. Some (record { at = ends from.at sought.0; far = c })) sought.2 in
+      ended ∙ sym (ap (reached_by from) met-all)
+
+  pub sought-met : length tests ≤ room → seek skips tests (drop from.at gs) ≡ some (mets_at gs from.at qs)
+  sought-met fits = met-all ∙ ap some (sought.4 fits).1

@@ -1,7 +1,9 @@
--- Where a search for entries met its glyphs.
-use Rattle.std.specs.Prelude.{ℕ, suc, ◌-◌, Bool, false, List, [], ◌∷◌, slice_index_or}
+-- Where a search for entries met its glyphs, and where it ended.
+use Rattle.std.specs.Prelude.{ℕ, suc, ◌+◌, ◌-◌, Bool, false, List, [], ◌∷◌, Some, None, Option, slice_index_or}
+use Rattle.std.proofs.Math.Option.{Option as Perhaps, none, some}
 use Rattle.model.specs.declared.Glyph.{Glyph}
-use Rattle.model.specs.Lookups.{Met}
+use Rattle.model.specs.Lookups.{Met, far}
+use Rattle.matching.specs.declared.seek.Reached.{Reached}
 
 -- What entry k asks of a glyph; nothing meets an entry that is not there.
 abbrev pub meets : List (ℕ → Bool) → (k glyph : ℕ) → Bool
@@ -15,3 +17,13 @@ glyph_at gs i = slice_index_or gs i (record { glyph = 0; cluster = 0 })
 abbrev pub mets_at : List Glyph → (i : ℕ) → (indices : List ℕ) → List Met
 mets_at gs i [] = []
 mets_at gs i (q ∷ qs) = record { gap = q - i; cluster = (glyph_at gs q).cluster } ∷ mets_at gs (suc q) qs
+
+-- The index behind the last glyph met, in a search from index i on.
+abbrev pub ends : (i : ℕ) → List Met → ℕ
+ends i [] = i
+ends i (m ∷ ms) = ends (i + m.gap + 1) ms
+
+-- Where a search ended that went on from somewhere: there, and at the same cluster, if there was nothing to meet.
+abbrev pub reached_by : Reached → Perhaps (List Met) → Option Reached
+reached_by from none = None
+reached_by from (some ms) = Some (record { at = ends from.at ms; far = far from.far ms })

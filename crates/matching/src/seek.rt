@@ -1,8 +1,8 @@
-ghost use Rattle.std.specs.Prelude.{◌≡◌, ◌≤◌, List, Bool, ℕ, length, take, drop, slice_set, if◌then◌else◌};
-ghost use Rattle.std.proofs.Math.Option.{none, some};
+ghost use Rattle.std.specs.Prelude.{◌≡◌, ◌≤◌, length, take, drop, slice_set, IfSome};
+ghost use Rattle.std.proofs.Math.Option.{some};
 ghost use Rattle.model.specs.Lookups.{seek};
 ghost use Rattle.matching.specs.Next.{skips};
-ghost use Rattle.matching.specs.Seek.{mets_at};
+ghost use Rattle.matching.specs.Seek.{mets_at, reached_by};
 
 use crate::glyphs::Glyphs;
 use crate::passing::Passing;
@@ -23,6 +23,13 @@ pub trait Entries {
         ensures { result ≡ meets (tests self.now) k glyph };
 }
 
+// How far a search got: the index behind the last glyph met, and that glyph's cluster.
+#[derive(Clone, Copy)]
+pub struct Reached {
+    pub at: usize,
+    pub far: u32,
+}
+
 // Notes an index, where there is a place for it.
 fn note(met: &mut [usize], k: usize, index: usize)
     ensures { met.new ≡ slice_set met.old k index }
@@ -33,29 +40,31 @@ fn note(met: &mut [usize], k: usize, index: usize)
 }
 
 impl<S: FontSource> Passing<'_, S> {
-    // Whether all entries are met, each by the next glyph that is not passed over, from an index on. `met` gets the indices of those glyphs; where it is shorter than the entries, the answer says nothing.
+    // Whether all entries are met, each by the next glyph that is not passed over, from where another search ended. Answers where this one ended. `met` gets the indices of the glyphs met, as many as it has places for.
     pub fn seek<G: Glyphs, E: Entries>(
         &self,
         glyphs: &G,
-        from: usize,
+        from: Reached,
         entries: &E,
         met: &mut [usize],
-    ) -> bool
-        ensures found { length (E.Entries.tests entries.now) ≤ length met.old → seek (skips (S.FontSource.means self.now.source.now) self.now.flag self.now.mark_set) (E.Entries.tests entries.now) (drop from (G.Glyphs.glyphs glyphs.now)) ≡ (if result then some (mets_at (G.Glyphs.glyphs glyphs.now) from (take (length (E.Entries.tests entries.now)) met.new)) else none) }
+    ) -> Option<Reached>
+        ensures reached { result ≡ reached_by from (seek (skips (S.FontSource.means self.now.source.now) self.now.flag self.now.mark_set) (E.Entries.tests entries.now) (drop from.at (G.Glyphs.glyphs glyphs.now))) }
+        ensures met { length (E.Entries.tests entries.now) ≤ length met.old → IfSome result (λ _. seek (skips (S.FontSource.means self.now.source.now) self.now.flag self.now.mark_set) (E.Entries.tests entries.now) (drop from.at (G.Glyphs.glyphs glyphs.now)) ≡ some (mets_at (G.Glyphs.glyphs glyphs.now) from.at (take (length (E.Entries.tests entries.now)) met.new))) }
         ensures len { length met.new ≡ length met.old }
     {
-        let mut at = from;
+        let mut so_far = from;
         for k in 0..entries.len() {
-            let Some(next) = self.next(glyphs, at) else {
-                return false;
-            };
+            let next = self.next(glyphs, so_far.at)?;
             if !entries.meets(k, next.glyph.glyph) {
-                return false;
+                return None;
             }
-            let index = at + next.gap;
+            let index = so_far.at + next.gap;
             note(met, k, index);
-            at = index + 1;
+            so_far = Reached {
+                at: index + 1,
+                far: next.glyph.cluster,
+            };
         }
-        true
+        Some(so_far)
     }
 }

@@ -2,7 +2,7 @@ ghost use Rattle.std.specs.Prelude.{◌==◌, cond, false, [], ◌∷◌, nat_eq
 
 use crate::glyphs::{Ahead, Back};
 use crate::passing::Passing;
-use crate::seek::Entries;
+use crate::seek::{Entries, Reached};
 use font::glyph_class::GlyphClass;
 use font::source::FontSource;
 use model::Glyph;
@@ -87,11 +87,20 @@ fn marks_are_passed_over(rt: HostRuntime) -> Result<(), Fail> {
     );
     assert!(rt; passing.next(&ahead, 3).is_none());
     let mut met = [9];
-    assert!(rt; passing.seek(&ahead, 0, &Same(2), &mut met));
+    let start = Reached { at: 0, far: 7 };
+    let reached = passing.seek(&ahead, start, &Same(2), &mut met);
+    assert_eq!(rt;
+        reached.map(|reached| (reached.at, reached.far)),
+        Some((3, 3))
+    );
     assert_eq!(rt; met, [2]);
-    assert!(rt; passing.seek(&back, 0, &Same(1), &mut met));
-    assert!(rt; !passing.seek(&ahead, 0, &Same(1), &mut met));
-    assert!(rt; !passing.seek(&ahead, 0, &Same(3), &mut met));
+    let reached = passing.seek(&back, start, &Same(1), &mut []);
+    assert_eq!(rt;
+        reached.map(|reached| (reached.at, reached.far)),
+        Some((3, 0))
+    );
+    assert!(rt; passing.seek(&ahead, start, &Same(1), &mut met).is_none());
+    assert!(rt; passing.seek(&ahead, start, &Same(3), &mut met).is_none());
     run.close();
     Ok(())
 }

@@ -1,18 +1,24 @@
-use Rattle.std.proofs.Common.{◌≡◌, ◌+◌, ◌<◌, ◌++◌, [], ◌∷◌, length, take, sym, ap, subst, ◌∙◌, arith}
+use Rattle.std.proofs.Common.{◌≡◌, ◌+◌, ◌<◌, ◌≤◌, ◌++◌, [], ◌∷◌, length, take, refl, sym, ap, ◌∙◌, arith}
 use Rattle.std.proofs.lemmas.List.{length-set, take_more_set}
 use Rattle.matching.specs.Next.{skips}
-use Rattle.matching.proofs.Seeks.{Sought, sought-none, sought-not, sought-on}
+use Rattle.matching.proofs.Seeks.{sought-first, sought-none, sought-not, sought-on}
 use Rattle.matching.proofs.passing.Passing.seek.Goals as goal
 
-pub returns-in_default-clause-found : goal.returns-in_default-clause-found
-returns-in_default-clause-found g c = λ fits.
-    sought-none (skips (g.S.FontSource.means c.args.self.now.source.now) c.args.self.now.flag c.args.self.now.mark_set) (g.E.Entries.tests c.args.entries.now) (g.G.Glyphs.glyphs c.args.glyphs.now) c.args.from c.loop-k.k c.loop-k.at (take c.loop-k.k c.loop-k.met)
-    (c.loop-k.invariant.sought fits) (omega arith) (sym c.in_default.is ∙ c.next.ensures.next)
+pub loop-k-init : goal.loop-k-init
+loop-k-init g c =
+    let sk = skips (g.S.FontSource.means c.args.self.now.source.now) c.args.self.now.flag c.args.self.now.mark_set in
+    record {
+      len = refl;
+      sought = ([], refl, refl, sought-first sk (g.E.Entries.tests c.args.entries.now) (g.G.Glyphs.glyphs c.args.glyphs.now) c.args.from, λ fits. (refl, refl));
+    }
 
-pub returns-then-not-meets-clause-found : goal.returns-then-not-meets-clause-found
-returns-then-not-meets-clause-found g c = λ fits.
-    sought-not (skips (g.S.FontSource.means c.args.self.now.source.now) c.args.self.now.flag c.args.self.now.mark_set) (g.E.Entries.tests c.args.entries.now) (g.G.Glyphs.glyphs c.args.glyphs.now) c.args.from c.loop-k.k c.loop-k.at (take c.loop-k.k c.loop-k.met)
-    (c.loop-k.invariant.sought fits) (omega arith) c.in-Some.next (sym c.next.ensures.next ∙ c.in-Some.is) (sym c.meets.ensures ∙ c.if-not-meets.true)
+pub returns-in_err-next-clause-reached : goal.returns-in_err-next-clause-reached
+returns-in_err-next-clause-reached g c =
+    c.from_residual.ensures ∙ sought-none _ _ _ c.args.from c.loop-k.so_far c.loop-k.k _ _ c.loop-k.invariant.sought (omega arith) (sym c.in_err-next.was ∙ c.next.ensures.next)
+
+pub returns-then-not-meets-clause-reached : goal.returns-then-not-meets-clause-reached
+returns-then-not-meets-clause-reached g c =
+    sought-not _ _ _ c.args.from c.loop-k.so_far c.loop-k.k _ _ c.loop-k.invariant.sought (omega arith) c.in_ok-next.next (sym c.next.ensures.next ∙ c.in_ok-next.was) (sym c.meets.ensures ∙ c.if-not-meets.true)
 
 pub loop-k-preserved : goal.loop-k-preserved
 loop-k-preserved g c =
@@ -20,14 +26,13 @@ loop-k-preserved g c =
     let tests = g.E.Entries.tests c.args.entries.now in
     let gs = g.G.Glyphs.glyphs c.args.glyphs.now in
     let k = c.loop-k.k in
-    let at = c.loop-k.at in
     let met = c.loop-k.met in
-    let index = at + c.in-Some.next.gap in
+    let index = c.loop-k.so_far.at + c.in_ok-next.next.gap in
+    let room = length c.args.met.now in
+    let noted : length tests ≤ room → take (k + 1) c.note.new.met ≡ take k met ++ index ∷ [] = λ fits.
+    let inside : k < length met = omega (arith, c.loop-k.invariant.len) in
+    ap (take (k + 1)) c.note.ensures ∙ take_more_set met k index inside in
     record {
       len = ap length c.note.ensures ∙ length-set met k index ∙ c.loop-k.invariant.len;
-      sought = λ fits.
-          let inside : k < length met = omega (arith, c.loop-k.invariant.len) in
-          let on = sought-on sk tests gs c.args.from k at (take k met) (c.loop-k.invariant.sought fits) (omega arith) c.in-Some.next (sym c.next.ensures.next ∙ c.in-Some.is) (sym c.meets.ensures ∙ c.if-not-meets.false) in
-          let noted : take (k + 1) c.note.new.met ≡ take k met ++ index ∷ [] = ap (take (k + 1)) c.note.ensures ∙ take_more_set met k index inside in
-          subst (Sought sk tests gs c.args.from (k + 1) (index + 1)) (sym noted) on;
+      sought = sought-on sk tests gs c.args.from c.loop-k.so_far k room (take k met) c.loop-k.invariant.sought (omega arith) c.in_ok-next.next (sym c.next.ensures.next ∙ c.in_ok-next.was) (sym c.meets.ensures ∙ c.if-not-meets.false) (take (k + 1) c.note.new.met) noted;
     }
