@@ -1,2 +1,3 @@
 mod Nexts
 mod Seeks
+mod Matches

@@ -30,7 +30,7 @@ behind-more : (xs : List Met) (m : Met) (r : Perhaps (List Met)) → behind xs (
 behind-more xs m none = refl
 behind-more xs m (some ms) = ap some (sym (append_assoc xs (m ∷ []) ms))
 
-behind-none : (r : Perhaps (List Met)) → behind [] r ≡ r
+pub behind-none : (r : Perhaps (List Met)) → behind [] r ≡ r
 behind-none none = refl
 behind-none (some ms) = refl
 

@@ -1,2 +1,3 @@
 pub mod Next
 pub mod Seek
+pub mod Match

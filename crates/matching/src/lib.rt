@@ -3,6 +3,7 @@
 
 pub mod glyphs;
 pub mod passing;
+pub mod pattern;
 pub mod seek;
 #[cfg(test)]
 mod tests;

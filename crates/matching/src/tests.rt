@@ -2,6 +2,7 @@ ghost use Rattle.std.specs.Prelude.{◌==◌, cond, false, [], ◌∷◌, nat_eq
 
 use crate::glyphs::{Ahead, Back};
 use crate::passing::Passing;
+use crate::pattern::Around;
 use crate::seek::{Entries, Reached};
 use font::glyph_class::GlyphClass;
 use font::source::FontSource;
@@ -53,6 +54,22 @@ impl Entries for Same {
     }
 }
 
+// No entries.
+#[derive(Drop)]
+struct Nothing;
+
+impl Entries for Nothing {
+    ghost tests = { λ _. [] };
+
+    fn len(&self) -> usize {
+        0
+    }
+
+    fn meets(&self, _k: usize, _glyph: u16) -> bool {
+        false
+    }
+}
+
 // Glyph 1, two marks, glyph 2, each with its place as its cluster; under flag 8 the marks are passed over.
 #[test]
 fn marks_are_passed_over(rt: HostRuntime) -> Result<(), Fail> {
@@ -101,6 +118,22 @@ fn marks_are_passed_over(rt: HostRuntime) -> Result<(), Fail> {
     );
     assert!(rt; passing.seek(&ahead, start, &Same(1), &mut met).is_none());
     assert!(rt; passing.seek(&ahead, start, &Same(3), &mut met).is_none());
+    let after_1 = Around {
+        backtrack: Same(1),
+        input: Nothing,
+        lookahead: Nothing,
+    };
+    let span = passing.matches(&run, 3, &after_1, &mut []);
+    assert_eq!(rt; span.map(|span| (span.lo, span.hi)), Some((0, 3)));
+    let before_2 = Around {
+        backtrack: Nothing,
+        input: Same(2),
+        lookahead: Nothing,
+    };
+    let span = passing.matches(&run, 0, &before_2, &mut met);
+    assert_eq!(rt; span.map(|span| (span.lo, span.hi)), Some((0, 3)));
+    assert!(rt; passing.matches(&run, 3, &before_2, &mut met).is_none());
+    assert!(rt; passing.matches(&run, 4, &after_1, &mut []).is_none());
     run.close();
     Ok(())
 }

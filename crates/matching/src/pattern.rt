@@ -1,0 +1,60 @@
+ghost use Rattle.std.specs.Prelude.{◌≡◌, ◌≤◌, ◌<◌, suc, length, take, drop, None, IfSome};
+ghost use Rattle.std.proofs.Math.Option.{some};
+ghost use Rattle.run.specs.Contents.{glyphs_of};
+ghost use Rattle.model.specs.Lookups.{Action};
+ghost use Rattle.matching.specs.Next.{skips};
+ghost use Rattle.matching.specs.Seek.{glyph_at, mets_at};
+ghost use Rattle.matching.specs.Match.{matched_at, spanned};
+
+use crate::glyphs::{Ahead, Back};
+use crate::passing::Passing;
+use crate::seek::{Entries, Reached};
+use font::source::FontSource;
+use run::Run;
+
+// What must stand around a glyph.
+#[derive(Clone, Copy)]
+pub struct Around<B: Entries, I: Entries, L: Entries> {
+    pub backtrack: B,
+    pub input: I,
+    pub lookahead: L,
+}
+
+// The clusters of the leftmost and the rightmost glyph of a match.
+#[derive(Clone, Copy)]
+pub struct Span {
+    pub lo: u32,
+    pub hi: u32,
+}
+
+impl<S: FontSource> Passing<'_, S> {
+    // Whether a pattern matches around position `p` of a run; where there is no such glyph, it does not. `met` gets the indices of the further input, counted from the glyph behind that position, as many as it has places for.
+    pub fn matches<B: Entries, I: Entries, L: Entries>(
+        &self,
+        run: &Run<'_>,
+        p: usize,
+        around: &Around<B, I, L>,
+        met: &mut [usize],
+    ) -> Option<Span>
+        ensures span { (action : Action) → p < length (glyphs_of run.now) → result ≡ spanned (matched_at (skips (S.FontSource.means self.now.source.now) self.now.flag self.now.mark_set) (record { backtrack = B.Entries.tests around.now.backtrack; input = I.Entries.tests around.now.input; lookahead = L.Entries.tests around.now.lookahead }) action (glyphs_of run.now) p) }
+        ensures input { (action : Action) → length (I.Entries.tests around.now.input) ≤ length met.old → IfSome result (λ span. matched_at (skips (S.FontSource.means self.now.source.now) self.now.flag self.now.mark_set) (record { backtrack = B.Entries.tests around.now.backtrack; input = I.Entries.tests around.now.input; lookahead = L.Entries.tests around.now.lookahead }) action (glyphs_of run.now) p ≡ some (record { action = action; others = mets_at (drop (suc p) (glyphs_of run.now)) 0 (take (length (I.Entries.tests around.now.input)) met.new); own = (glyph_at (glyphs_of run.now) p).cluster; lo = span.lo; hi = span.hi })) }
+        ensures past { length (glyphs_of run.now) ≤ p → result ≡ None }
+        ensures len { length met.new ≡ length met.old }
+    {
+        if p >= run.len() {
+            return None;
+        }
+        let start = Reached {
+            at: 0,
+            far: run.get(p)?.cluster,
+        };
+        let ahead = Ahead { run, from: p + 1 };
+        let input = self.seek(&ahead, start, &around.input, met)?;
+        let lookahead = self.seek(&ahead, input, &around.lookahead, &mut [])?;
+        let back = self.seek(&Back { run, before: p }, start, &around.backtrack, &mut [])?;
+        Some(Span {
+            lo: back.far,
+            hi: lookahead.far,
+        })
+    }
+}
