@@ -1,5 +1,5 @@
 ghost use Rattle.std.specs.Prelude.{◌≡◌, ◌+◌, ◌-◌, ◌^◌, ◌<◌, drop, IfSome};
-ghost use Rattle.matching.specs.Next.{skips, next_in};
+ghost use Rattle.matching.specs.Next.{skips, next_in, SkipsAsLookups};
 
 use crate::glyphs::Glyphs;
 use font::glyph_class::GlyphClass;
@@ -65,3 +65,8 @@ impl<S: FontSource> Passing<'_, S> {
         None
     }
 }
+
+// What is passed over depends on a lookup's flag and mark set alone.
+pub fn skips_as_lookups()
+    ensures { SkipsAsLookups }
+{}

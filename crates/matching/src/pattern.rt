@@ -28,7 +28,7 @@ pub struct Span {
 }
 
 impl<S: FontSource> Passing<'_, S> {
-    // Whether a pattern matches around position `p` of a run; where there is no such glyph, it does not. `met` gets the indices of the further input, counted from the glyph behind that position, as many as it has places for.
+    // Whether a pattern matches around position `p` of a run; where there is no such glyph, it does not. `met` gets the indices of the further input, counted from the glyph behind that position, as many as it has places for; no place behind those changes.
     pub fn matches<B: Entries, I: Entries, L: Entries>(
         &self,
         run: &Run<'_>,
@@ -39,6 +39,7 @@ impl<S: FontSource> Passing<'_, S> {
         ensures span { (action : Action) → p < length (glyphs_of run.now) → result ≡ spanned (matched_at (skips (S.FontSource.means self.now.source.now) self.now.flag self.now.mark_set) (record { backtrack = B.Entries.tests around.now.backtrack; input = I.Entries.tests around.now.input; lookahead = L.Entries.tests around.now.lookahead }) action (glyphs_of run.now) p) }
         ensures input { (action : Action) → length (I.Entries.tests around.now.input) ≤ length met.old → IfSome result (λ span. matched_at (skips (S.FontSource.means self.now.source.now) self.now.flag self.now.mark_set) (record { backtrack = B.Entries.tests around.now.backtrack; input = I.Entries.tests around.now.input; lookahead = L.Entries.tests around.now.lookahead }) action (glyphs_of run.now) p ≡ some (record { action = action; others = mets_at (drop (suc p) (glyphs_of run.now)) 0 (take (length (I.Entries.tests around.now.input)) met.new); own = (glyph_at (glyphs_of run.now) p).cluster; lo = span.lo; hi = span.hi })) }
         ensures past { length (glyphs_of run.now) ≤ p → result ≡ None }
+        ensures rest { drop (length (I.Entries.tests around.now.input)) met.new ≡ drop (length (I.Entries.tests around.now.input)) met.old }
         ensures len { length met.new ≡ length met.old }
     {
         if p >= run.len() {

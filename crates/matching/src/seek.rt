@@ -40,7 +40,7 @@ fn note(met: &mut [usize], k: usize, index: usize)
 }
 
 impl<S: FontSource> Passing<'_, S> {
-    // Whether all entries are met, each by the next glyph that is not passed over, from where another search ended. Answers where this one ended. `met` gets the indices of the glyphs met, as many as it has places for.
+    // Whether all entries are met, each by the next glyph that is not passed over, from where another search ended. Answers where this one ended. `met` gets the indices of the glyphs met, as many as it has places for; no place behind those changes.
     pub fn seek<G: Glyphs, E: Entries>(
         &self,
         glyphs: &G,
@@ -50,6 +50,7 @@ impl<S: FontSource> Passing<'_, S> {
     ) -> Option<Reached>
         ensures reached { result ≡ reached_by from (seek (skips (S.FontSource.means self.now.source.now) self.now.flag self.now.mark_set) (E.Entries.tests entries.now) (drop from.at (G.Glyphs.glyphs glyphs.now))) }
         ensures met { length (E.Entries.tests entries.now) ≤ length met.old → IfSome result (λ _. seek (skips (S.FontSource.means self.now.source.now) self.now.flag self.now.mark_set) (E.Entries.tests entries.now) (drop from.at (G.Glyphs.glyphs glyphs.now)) ≡ some (mets_at (G.Glyphs.glyphs glyphs.now) from.at (take (length (E.Entries.tests entries.now)) met.new))) }
+        ensures rest { drop (length (E.Entries.tests entries.now)) met.new ≡ drop (length (E.Entries.tests entries.now)) met.old }
         ensures len { length met.new ≡ length met.old }
     {
         let mut so_far = from;

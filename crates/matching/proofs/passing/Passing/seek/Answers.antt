@@ -1,5 +1,5 @@
-use Rattle.std.proofs.Common.{◌≡◌, ◌+◌, ◌<◌, ◌≤◌, ◌++◌, [], ◌∷◌, length, take, refl, sym, ap, ◌∙◌, arith}
-use Rattle.std.proofs.lemmas.List.{length-set, take_more_set}
+use Rattle.std.proofs.Common.{◌≡◌, ◌+◌, ◌<◌, ◌≤◌, ◌++◌, [], ◌∷◌, length, take, drop, refl, sym, ap, ◌∙◌, arith}
+use Rattle.std.proofs.lemmas.List.{length-set, drop-set-lt, take_more_set}
 use Rattle.matching.specs.Next.{skips}
 use Rattle.matching.proofs.Seeks.{sought-first, sought-none, sought-not, sought-on}
 use Rattle.matching.proofs.passing.Passing.seek.Goals as goal
@@ -9,6 +9,7 @@ loop-k-init g c =
     let sk = skips (g.S.FontSource.means c.args.self.now.source.now) c.args.self.now.flag c.args.self.now.mark_set in
     record {
       len = refl;
+      rest = refl;
       sought = ([], refl, refl, sought-first sk (g.E.Entries.tests c.args.entries.now) (g.G.Glyphs.glyphs c.args.glyphs.now) c.args.from, λ fits. (refl, refl));
     }
 
@@ -34,5 +35,6 @@ loop-k-preserved g c =
     ap (take (k + 1)) c.note.ensures ∙ take_more_set met k index inside in
     record {
       len = ap length c.note.ensures ∙ length-set met k index ∙ c.loop-k.invariant.len;
+      rest = ap (drop (length tests)) c.note.ensures ∙ drop-set-lt (length tests) met k index (omega arith) ∙ c.loop-k.invariant.rest;
       sought = sought-on sk tests gs c.args.from c.loop-k.so_far k room (take k met) c.loop-k.invariant.sought (omega arith) c.in_ok-next.next (sym c.next.ensures.next ∙ c.in_ok-next.was) (sym c.meets.ensures ∙ c.if-not-meets.false) (take (k + 1) c.note.new.met) noted;
     }
