@@ -13,11 +13,6 @@ meets tests k = slice_index_or tests k (λ g. false)
 abbrev pub glyph_at : List Glyph → ℕ → Glyph
 glyph_at gs i = slice_index_or gs i (record { glyph = 0; cluster = 0 })
 
--- Indices from i on that rise and lie before n.
-abbrev pub Outward : (i n : ℕ) → List ℕ → Type 0
-Outward i n [] = Unit {0}
-Outward i n (q ∷ qs) = (i ≤ q) × (q < n) × Outward (suc q) n qs
-
 -- Glyphs that were met, by their indices in a list, in a search from index i on.
 abbrev pub mets_at : List Glyph → (i : ℕ) → (indices : List ℕ) → List Met
 mets_at gs i [] = []

@@ -1,6 +1,6 @@
-use Rattle.std.proofs.Common.{◌≡◌, ◌∙◌, sym, ap, length, map, arith}
+use Rattle.std.proofs.Common.{◌∙◌, sym, length, arith}
 use Rattle.run.specs.Contents.{glyphs_of}
-use Rattle.ties.specs.Ties.{tied_in, noted}
+use Rattle.ties.specs.Ties.{tied_in}
 use Rattle.ties.proofs.Notes.{marks-tied, noted-more, noted-all}
 use Rattle.ties.proofs.settle.Goals as goal
 
