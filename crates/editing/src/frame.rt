@@ -1,5 +1,7 @@
-ghost use Rattle.std.specs.Prelude.{◌≡◌, ℕ, ◌≤◌, ◌<◌, ◌+◌, ◌^◌, ◌++◌, ◌∷◌, [], take};
-ghost use Rattle.model.specs.Edits.{up_from, moved_all, moved_end as moved_end_of, told};
+ghost use Rattle.std.specs.Prelude.{◌≡◌, ℕ, ◌≤◌, ◌<◌, ◌+◌, ◌^◌, ◌++◌, ◌∷◌, [], List, take, map, length, slice_get};
+ghost use Rattle.model.specs.declared.Glyph.{Glyph};
+ghost use Rattle.matching.specs.Seek.{Outward, mets_at};
+ghost use Rattle.model.specs.Edits.{up_from, moved_all, moved_end as moved_end_of, told, frame_at};
 
 
 // An open match: the positions of its input glyphs, at most 64, and the position just after the last of them.
@@ -14,6 +16,38 @@ pub struct Frame {
 impl Frame {
     ghost use Rattle.editing.specs.Frames.{frame_of, edit, Inside, Fits};
 
+    // The open match of the glyph at `p` and those with these indices, counted from the glyph behind it.
+    pub(crate) fn at(p: usize, met: &[usize]) -> Frame
+        requires few { length met.now ≤ 63 }
+        requires rising { (n : ℕ) × Outward 0 n met.now × (p + 1 + n < 2 ^ 64) }
+        ensures frame { (gs : List Glyph) → frame_of result ≡ frame_at p (mets_at gs 0 met.now) }
+        ensures inside { (n : ℕ) → Outward 0 n met.now → Inside (p + 1 + n) (frame_of result) }
+    {
+        let behind = p + 1;
+        let mut frame = Frame {
+            positions: [0; 64],
+            count: 0,
+            end: behind,
+        };
+        frame.add(p, 1);
+        for &index in met {
+            frame.reach(behind + index);
+        }
+        frame
+    }
+
+    pub(crate) fn position(&self, index: usize) -> Option<usize>
+        ensures { result ≡ slice_get (frame_of self.now).positions index }
+    {
+        self.positions[..self.count].get(index).copied()
+    }
+
+    pub(crate) fn end(&self) -> usize
+        ensures { result ≡ self.now.end }
+    {
+        self.end
+    }
+
     // Adds `n` positions from `first` on, up to 64 in all.
     fn add(&mut self, first: usize, n: usize)
         requires { first + n ≤ 2 ^ 64 }
@@ -27,6 +61,16 @@ impl Frame {
             self.positions[self.count] = first + k;
             self.count += 1;
         }
+    }
+
+    // Adds a position, which is the last so far.
+    fn reach(&mut self, p: usize)
+        requires { p + 1 < 2 ^ 64 }
+        ensures positions { (frame_of self.new).positions ≡ take 64 ((frame_of self.old).positions ++ p ∷ []) }
+        ensures reached { self.new.end ≡ p + 1 }
+    {
+        self.add(p, 1);
+        self.end = p + 1;
     }
 
     // Adds what `p` becomes where the glyph at `position` gives way to `into` glyphs: before it `p` stays, at it are the new ones, and behind it `p` moves along.
