@@ -16,6 +16,14 @@ pub struct Frame {
 impl Frame {
     ghost use Rattle.editing.specs.Frames.{frame_of, edit, Inside, Fits};
 
+    pub(crate) fn none() -> Frame {
+        Frame {
+            positions: [0; 64],
+            count: 0,
+            end: 0,
+        }
+    }
+
     // The open match of the glyph at `p` and those with these indices, counted from the glyph behind it.
     pub(crate) fn at(p: usize, met: &[usize]) -> Frame
         requires few { length met.now ≤ 63 }
