@@ -1,0 +1,4 @@
+pub mod Adds
+pub mod Moves
+pub mod Opens
+pub mod Tables

@@ -1,0 +1,5 @@
+// A run that shaping changes, with the matches that are open in it.
+#![tactic(auto)]
+
+pub mod frame;
+pub mod editing;
