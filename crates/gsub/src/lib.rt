@@ -10,6 +10,6 @@ pub mod meaning;
 mod rules;
 mod seen;
 mod structures;
-mod subtable;
+pub mod subtable;
 pub mod table;
 mod walk;
