@@ -1,5 +1,5 @@
 -- A search for entries, one after the other.
-use Rattle.std.proofs.Common.{◌≡◌, ℕ, suc, ◌+◌, ◌-◌, ◌<◌, ◌≤◌, Bool, true, false, cond, List, [], ◌∷◌, ◌++◌, length, get_or, drop, Some, None, Option, refl, sym, ap, ◌∙◌, append_assoc, arith}
+use Rattle.std.proofs.Common.{◌≡◌, ℕ, suc, ◌+◌, ◌-◌, ◌<◌, ◌≤◌, Bool, true, false, cond, List, [], ◌∷◌, ◌++◌, length, get_or, drop, Some, None, Option, refl, sym, ap, ◌∙◌, subst, append_assoc, arith}
 use Rattle.std.proofs.lemmas.List.{drop_more, drop_all, drop-drop, get_or-drop, append-nil}
 use Rattle.std.proofs.Math.Option.{Option as Perhaps, none, some, map}
 use Rattle.model.specs.declared.Glyph.{Glyph}
@@ -7,7 +7,7 @@ use Rattle.model.specs.Lookups.{Met, far, seek}
 use Rattle.matching.specs.declared.passing.Next.{Next}
 use Rattle.matching.specs.Next.{later_by, next_in}
 use Rattle.matching.specs.declared.seek.Reached.{Reached}
-use Rattle.matching.specs.Seek.{meets, glyph_at, mets_at, ends, reached_by}
+use Rattle.matching.specs.Seek.{meets, glyph_at, mets_at, ends, reached_by, Outward}
 use Rattle.matching.proofs.Nexts.{met_by, seek-next}
 
 -- where the search goes on after the glyphs met
@@ -18,6 +18,10 @@ past i (q ∷ qs) = past (suc q) qs
 pub past-more : (i : ℕ) (qs : List ℕ) (q : ℕ) → past i (qs ++ q ∷ []) ≡ suc q
 past-more i [] q = refl
 past-more i (p ∷ qs) q = past-more (suc p) qs q
+
+outward-more : (i n : ℕ) (qs : List ℕ) (q : ℕ) → Outward i n qs → past i qs ≤ q → q < n → Outward i n (qs ++ q ∷ [])
+outward-more i n [] q out le lt = (le, lt, tt)
+outward-more i n (p ∷ qs) q out le lt = (out.0, out.1, outward-more (suc p) n qs q out.2 le lt)
 
 mets-more : (gs : List Glyph) (i : ℕ) (qs : List ℕ) (q : ℕ) → mets_at gs i (qs ++ q ∷ []) ≡ mets_at gs i qs ++ record { gap = q - past i qs; cluster = (glyph_at gs q).cluster } ∷ []
 mets-more gs i [] q = refl
@@ -70,7 +74,7 @@ module _ (skips : ℕ → Bool) (tests : List (ℕ → Bool)) (gs : List Glyph) 
       × (so_far.at ≡ ends from.at ms)
       × (so_far.far ≡ far from.far ms)
       × (seek skips tests (drop from.at gs) ≡ behind ms (seek skips (drop k tests) (drop so_far.at gs)))
-      × (length tests ≤ room → (so_far.at ≡ past from.at qs) × (ms ≡ mets_at gs from.at qs))
+      × (length tests ≤ room → (so_far.at ≡ past from.at qs) × (ms ≡ mets_at gs from.at qs) × Outward from.at (length gs) qs)
 
   module _ (sought : Sought) (more : k < length tests) where
     abbrev test : ℕ → Bool
@@ -93,14 +97,14 @@ module _ (skips : ℕ → Bool) (tests : List (ℕ → Bool)) (gs : List Glyph) 
           sym (ap (reached_by from) (sought.3 ∙ ap (behind sought.0) (by ∙ ap (λ b. cond b (map (λ ms. record { gap = next.gap; cluster = next.glyph.cluster } ∷ ms) (seek skips (drop (k + 1) tests) (drop (suc next.gap) (drop so_far.at gs)))) none) e)))
 
 -- it does: on to the next entry
-module _ (skips : ℕ → Bool) (tests : List (ℕ → Bool)) (gs : List Glyph) (from so_far : Reached) (k room : ℕ) (qs : List ℕ) (sought : Sought skips tests gs from so_far k room qs) (more : k < length tests) (next : Next) (is : next_in skips (drop so_far.at gs) ≡ Some next) (met : meets tests k next.glyph.glyph ≡ true) (qs' : List ℕ) (noted : length tests ≤ room → qs' ≡ qs ++ (so_far.at + next.gap) ∷ []) where
+module _ (skips : ℕ → Bool) (tests : List (ℕ → Bool)) (gs : List Glyph) (from so_far : Reached) (k room : ℕ) (qs : List ℕ) (sought : Sought skips tests gs from so_far k room qs) (more : k < length tests) (next : Next) (is : next_in skips (drop so_far.at gs) ≡ Some next) (met : meets tests k next.glyph.glyph ≡ true) (qs' : List ℕ) (noted : length tests ≤ room → qs' ≡ qs ++ (so_far.at + next.gap) ∷ []) (inside : so_far.at + next.gap < length gs) where
   abbrev index : ℕ
   index = so_far.at + next.gap
 
   abbrev m : Met
   m = record { gap = next.gap; cluster = next.glyph.cluster }
 
-  indices : (fits : length tests ≤ room) → (index + 1 ≡ past from.at qs') × (sought.0 ++ m ∷ [] ≡ mets_at gs from.at qs')
+  indices : (fits : length tests ≤ room) → (index + 1 ≡ past from.at qs') × (sought.0 ++ m ∷ [] ≡ mets_at gs from.at qs') × Outward from.at (length gs) qs'
   indices fits =
       let old = sought.4 fits in
       let gap : next.gap ≡ index - past from.at qs = omega (arith, old.0) in
@@ -109,6 +113,7 @@ module _ (skips : ℕ → Bool) (tests : List (ℕ → Bool)) (gs : List Glyph) 
       let end : index + 1 ≡ suc index = omega arith in (
         end ∙ sym (past-more from.at qs index) ∙ ap (past from.at) (sym (noted fits)),
         ap (λ xs. xs ++ m ∷ []) old.1 ∙ ap (λ x. mets_at gs from.at qs ++ x ∷ []) same ∙ sym (mets-more gs from.at qs index) ∙ ap (mets_at gs from.at) (sym (noted fits)),
+        subst (Outward from.at (length gs)) (sym (noted fits)) (outward-more from.at (length gs) qs index old.2 (omega (arith, old.0)) inside),
       )
 
   pub sought-on : Sought skips tests gs from (record { at = index + 1; far = next.glyph.cluster }) (k + 1) room qs'
@@ -137,3 +142,6 @@ module _ (skips : ℕ → Bool) (tests : List (ℕ → Bool)) (gs : List Glyph) 
 
   pub sought-met : length tests ≤ room → seek skips tests (drop from.at gs) ≡ some (mets_at gs from.at qs)
   sought-met fits = met-all ∙ ap some (sought.4 fits).1
+
+  pub sought-outward : length tests ≤ room → Outward from.at (length gs) qs
+  sought-outward fits = (sought.4 fits).2

@@ -1,5 +1,5 @@
 -- Where a search for entries met its glyphs, and where it ended.
-use Rattle.std.specs.Prelude.{ℕ, suc, ◌+◌, ◌-◌, Bool, false, List, [], ◌∷◌, Some, None, Option, slice_index_or}
+use Rattle.std.specs.Prelude.{ℕ, suc, ◌+◌, ◌-◌, ◌<◌, ◌≤◌, Bool, false, List, [], ◌∷◌, Some, None, Option, slice_index_or}
 use Rattle.std.proofs.Math.Option.{Option as Perhaps, none, some}
 use Rattle.model.specs.declared.Glyph.{Glyph}
 use Rattle.model.specs.Lookups.{Met, far}
@@ -17,6 +17,11 @@ glyph_at gs i = slice_index_or gs i (record { glyph = 0; cluster = 0 })
 abbrev pub mets_at : List Glyph → (i : ℕ) → (indices : List ℕ) → List Met
 mets_at gs i [] = []
 mets_at gs i (q ∷ qs) = record { gap = q - i; cluster = (glyph_at gs q).cluster } ∷ mets_at gs (suc q) qs
+
+-- Indices from i on that rise and lie before n.
+abbrev pub Outward : (i n : ℕ) → List ℕ → Type 0
+Outward i n [] = Unit {0}
+Outward i n (q ∷ qs) = (i ≤ q) × (q < n) × Outward (suc q) n qs
 
 -- The index behind the last glyph met, in a search from index i on.
 abbrev pub ends : (i : ℕ) → List Met → ℕ

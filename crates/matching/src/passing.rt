@@ -1,4 +1,4 @@
-ghost use Rattle.std.specs.Prelude.{◌≡◌, ◌+◌, ◌-◌, ◌^◌, ◌<◌, drop, IfSome};
+ghost use Rattle.std.specs.Prelude.{◌≡◌, ◌+◌, ◌-◌, ◌^◌, ◌<◌, drop, length, IfSome};
 ghost use Rattle.matching.specs.Next.{skips, next_in, SkipsAsLookups};
 
 use crate::glyphs::Glyphs;
@@ -50,6 +50,7 @@ impl<S: FontSource> Passing<'_, S> {
 
     // The next glyph from an index on that the lookup does not pass over.
     pub fn next<G: Glyphs>(&self, glyphs: &G, from: usize) -> Option<Next>
+        ensures inside { IfSome result (λ next. from + next.gap < length (G.Glyphs.glyphs glyphs.now)) }
         ensures near { IfSome result (λ next. from + next.gap < 2 ^ 64 - 1) }
         ensures next { result ≡ next_in (skips (S.FontSource.means self.now.source.now) self.now.flag self.now.mark_set) (drop from (G.Glyphs.glyphs glyphs.now)) }
     {

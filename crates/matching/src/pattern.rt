@@ -3,7 +3,7 @@ ghost use Rattle.std.proofs.Math.Option.{some};
 ghost use Rattle.run.specs.Contents.{glyphs_of};
 ghost use Rattle.model.specs.Lookups.{Action};
 ghost use Rattle.matching.specs.Next.{skips};
-ghost use Rattle.matching.specs.Seek.{glyph_at, mets_at};
+ghost use Rattle.matching.specs.Seek.{Outward, glyph_at, mets_at};
 ghost use Rattle.matching.specs.Match.{matched_at, spanned};
 
 use crate::glyphs::{Ahead, Back};
@@ -38,6 +38,7 @@ impl<S: FontSource> Passing<'_, S> {
     ) -> Option<Span>
         ensures span { (action : Action) → p < length (glyphs_of run.now) → result ≡ spanned (matched_at (skips (S.FontSource.means self.now.source.now) self.now.flag self.now.mark_set) (record { backtrack = B.Entries.tests around.now.backtrack; input = I.Entries.tests around.now.input; lookahead = L.Entries.tests around.now.lookahead }) action (glyphs_of run.now) p) }
         ensures input { (action : Action) → length (I.Entries.tests around.now.input) ≤ length met.old → IfSome result (λ span. matched_at (skips (S.FontSource.means self.now.source.now) self.now.flag self.now.mark_set) (record { backtrack = B.Entries.tests around.now.backtrack; input = I.Entries.tests around.now.input; lookahead = L.Entries.tests around.now.lookahead }) action (glyphs_of run.now) p ≡ some (record { action = action; others = mets_at (drop (suc p) (glyphs_of run.now)) 0 (take (length (I.Entries.tests around.now.input)) met.new); own = (glyph_at (glyphs_of run.now) p).cluster; lo = span.lo; hi = span.hi })) }
+        ensures outward { length (I.Entries.tests around.now.input) ≤ length met.old → IfSome result (λ _. Outward 0 (length (drop (suc p) (glyphs_of run.now))) (take (length (I.Entries.tests around.now.input)) met.new)) }
         ensures past { length (glyphs_of run.now) ≤ p → result ≡ None }
         ensures rest { drop (length (I.Entries.tests around.now.input)) met.new ≡ drop (length (I.Entries.tests around.now.input)) met.old }
         ensures len { length met.new ≡ length met.old }

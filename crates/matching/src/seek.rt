@@ -2,7 +2,7 @@ ghost use Rattle.std.specs.Prelude.{◌≡◌, ◌≤◌, length, take, drop, sl
 ghost use Rattle.std.proofs.Math.Option.{some};
 ghost use Rattle.model.specs.Lookups.{seek};
 ghost use Rattle.matching.specs.Next.{skips};
-ghost use Rattle.matching.specs.Seek.{mets_at, reached_by};
+ghost use Rattle.matching.specs.Seek.{Outward, mets_at, reached_by};
 
 use crate::glyphs::Glyphs;
 use crate::passing::Passing;
@@ -50,6 +50,7 @@ impl<S: FontSource> Passing<'_, S> {
     ) -> Option<Reached>
         ensures reached { result ≡ reached_by from (seek (skips (S.FontSource.means self.now.source.now) self.now.flag self.now.mark_set) (E.Entries.tests entries.now) (drop from.at (G.Glyphs.glyphs glyphs.now))) }
         ensures met { length (E.Entries.tests entries.now) ≤ length met.old → IfSome result (λ _. seek (skips (S.FontSource.means self.now.source.now) self.now.flag self.now.mark_set) (E.Entries.tests entries.now) (drop from.at (G.Glyphs.glyphs glyphs.now)) ≡ some (mets_at (G.Glyphs.glyphs glyphs.now) from.at (take (length (E.Entries.tests entries.now)) met.new))) }
+        ensures outward { length (E.Entries.tests entries.now) ≤ length met.old → IfSome result (λ _. Outward from.at (length (G.Glyphs.glyphs glyphs.now)) (take (length (E.Entries.tests entries.now)) met.new)) }
         ensures rest { drop (length (E.Entries.tests entries.now)) met.new ≡ drop (length (E.Entries.tests entries.now)) met.old }
         ensures len { length met.new ≡ length met.old }
     {

@@ -9,7 +9,8 @@ use Rattle.std.proofs.lemmas.Bool.{cases_lt, le-leb, le-ltb, lt-leb, lt-ltb}
 use Rattle.model.specs.declared.Glyph.{Glyph}
 use Rattle.font.specs.Font.{Font}
 use Rattle.model.specs.Edits.{at_cluster}
-use Rattle.model.specs.Shaping.{Ending, Entry, Inputs, Pass, Runs, State, Sweeps, accepted, back_pass, laid, start}
+use Rattle.model.specs.declared.Entry.{Entry}
+use Rattle.model.specs.Shaping.{Ending, Inputs, Pass, Runs, State, Sweeps, accepted, back_pass, laid, start}
 use Rattle.model.specs.Laws.{raise}
 use Rattle.model.proofs.Seek.{Clusters}
 use Rattle.model.proofs.Choose.{Above, Below}

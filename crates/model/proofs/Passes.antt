@@ -3,7 +3,8 @@ use Rattle.std.proofs.Common.{◌≡◌, ℕ, zero, suc, ◌+◌, ◌<◌, ◌�
 use Rattle.std.proofs.lemmas.List.{length-append, length-map}
 use Rattle.std.proofs.lemmas.Bool.{cases_lt, le-ltb, lt-ltb}
 use Rattle.model.specs.declared.Glyph.{Glyph}
-use Rattle.model.specs.Shaping.{Attempt, Ending, Entry, Inputs, State, accepted, back_pass, barred, hit, miss, planned, stopped}
+use Rattle.model.specs.declared.Entry.{Entry}
+use Rattle.model.specs.Shaping.{Attempt, Ending, Inputs, State, accepted, back_pass, barred, hit, miss, planned, stopped}
 use Rattle.model.proofs.Seek.{Clusters}
 use Rattle.model.proofs.Choose.{Above, Below}
 use Rattle.model.proofs.Chain.{attempt-makes}

@@ -2,7 +2,8 @@
 use Rattle.std.proofs.Common.{◌≡◌, ℕ, zero, suc, ◌<◌, ◌≤◌, Bool, true, false, ltb, leb, List, [], ◌∷◌, length, sym, subst, inl, inr, arith}
 use mathlib.Core.Bool.{and-false}
 use Rattle.std.proofs.lemmas.Bool.{lt-leb}
-use Rattle.model.specs.Shaping.{Attempt, Ending, Entry, Inputs, Runs, State, Sweeps, accepted, answer, attempt, back_pass, barred, hit, miss, planned, stopped}
+use Rattle.model.specs.declared.Entry.{Entry}
+use Rattle.model.specs.Shaping.{Attempt, Ending, Inputs, Runs, State, Sweeps, accepted, answer, attempt, back_pass, barred, hit, miss, planned, stopped}
 use Rattle.model.proofs.Seek.{Clusters}
 use Rattle.model.proofs.Chain.{Makes, Refusal, Strike, attempt-makes, chain-keeps, more}
 use Rattle.model.proofs.Keeps.{strike-hi, strike-in, strike-tied, untied}

@@ -1,6 +1,7 @@
 -- A forward pass as a chain of steps, and that a plan has at most one ending.
 use Rattle.std.proofs.Common.{◌≡◌, ℕ, suc, Bool, true, false, cond, ltb, List, [], ◌∷◌, length, sym, refl, ap, ◌∙◌, subst, subst₂, inl, inr, arith}
-use Rattle.model.specs.Shaping.{Attempt, Ending, Entry, Inputs, Pass, Runs, State, Sweeps, accepted, answer, back_pass, barred, ends, hit, hits, miss, misses, planned, stopped, stops}
+use Rattle.model.specs.declared.Entry.{Entry}
+use Rattle.model.specs.Shaping.{Attempt, Ending, Inputs, Pass, Runs, State, Sweeps, accepted, answer, back_pass, barred, ends, hit, hits, miss, misses, planned, stopped, stops}
 
 -- one step of a pass: on from a position, or over
 pub data Step : Type 0 where

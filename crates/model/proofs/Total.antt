@@ -1,7 +1,8 @@
 -- Every text has an outcome: a hit raises the hits, which the limit bounds, and a miss leaves one glyph less.
 use Rattle.std.proofs.Common.{◌≡◌, ℕ, zero, suc, ◌+◌, ◌<◌, ◌≤◌, Bool, true, false, cond, ltb, List, [], ◌∷◌, length, refl, inl, inr, arith}
 use Rattle.std.proofs.lemmas.Bool.{ltb-true}
-use Rattle.model.specs.Shaping.{Attempt, Ending, Entry, Inputs, Pass, Runs, State, Sweeps, accepted, back_pass, barred, ends, hit, hits, miss, misses, planned, stopped, stops}
+use Rattle.model.specs.declared.Entry.{Entry}
+use Rattle.model.specs.Shaping.{Attempt, Ending, Inputs, Pass, Runs, State, Sweeps, accepted, back_pass, barred, ends, hit, hits, miss, misses, planned, stopped, stops}
 use Rattle.model.proofs.Chain.{Makes, attempt-makes, chain-keeps}
 use Rattle.model.proofs.Plans.{strike-hits}
 

@@ -4,7 +4,8 @@ use Rattle.std.specs.List.{AllByRecursion}
 use Rattle.font.specs.Font.{width}
 use Rattle.model.specs.declared.Glyph.{Glyph}
 use Rattle.model.specs.Edits.{Edit, at_cluster}
-use Rattle.model.specs.Shaping.{Entry, Inputs, State, hit, attempt, accepted, Sweeps, Shaped, Outcome, refused, shaped, Shapes}
+use Rattle.model.specs.declared.Entry.{Entry}
+use Rattle.model.specs.Shaping.{Inputs, State, hit, attempt, accepted, Sweeps, Shaped, Outcome, refused, shaped, Shapes}
 
 -- A text has at most one outcome.
 abbrev pub AtMostOneOutcome : Type 0

@@ -3,3 +3,4 @@ pub mod Edits
 pub mod Shaping
 pub mod Laws
 pub mod Examples
+pub mod Limits

@@ -3,14 +3,10 @@ use Rattle.std.specs.Prelude.{◌≡◌, ℕ, zero, suc, ◌<◌, ◌≤◌, Boo
 use Rattle.std.proofs.Math.Option.{Option, none, some}
 use Rattle.std.proofs.Math.ListN.{get_elem?}
 use Rattle.font.specs.Font.{Font}
+use Rattle.model.specs.declared.Entry.{Entry}
 use Rattle.model.specs.declared.Glyph.{Glyph}
 use Rattle.model.specs.Lookups.{LookupRecord, Action, put, join, nest, Lookup, passes_over, Met, Match, choose}
 use Rattle.model.specs.Edits.{Edit, Frame, told, frame_at, at_cluster, changed, edits}
-
--- A plan entry: a lookup number, and the alternate value for it and for what its records run.
-pub record Entry : Type 0 where
-  pub lookup : ℕ
-  pub alternate : ℕ
 
 -- All that shaping reads but the text: the font, the lookups by number, the plan, the hit limit, and the room for glyphs in the run buffer.
 pub record Inputs : Type 0 where

@@ -4,11 +4,28 @@
 ghost use Rattle.model.specs.Examples.{WorkedExamples, FurtherExamples};
 ghost use Rattle.model.specs.Laws.{AtMostOneOutcome, AlwaysAnOutcome, ClustersRise, TiesStay, LimitsHold, RefusalsAreTwo, CutInTwo, CutInPieces, LineAlone, SumsOfPieces};
 
+use font::source::HasGlyph;
+
 // A glyph of a run: its number, and the cluster that it belongs to.
 #[derive(Clone, Copy)]
 pub struct Glyph {
     pub glyph: u16,
     pub cluster: u32,
+}
+
+impl HasGlyph for Glyph {
+    ghost shows = { λ g. g.glyph };
+
+    fn glyph(&self) -> u16 {
+        self.glyph
+    }
+}
+
+// A plan entry: a lookup number, and the alternate value for it and for what its records run.
+#[derive(Clone, Copy)]
+pub struct Entry {
+    pub lookup: u16,
+    pub alternate: u16,
 }
 
 // A text has at most one outcome.

@@ -10,7 +10,7 @@ loop-k-init g c =
     record {
       len = refl;
       rest = refl;
-      sought = ([], refl, refl, sought-first sk (g.E.Entries.tests c.args.entries.now) (g.G.Glyphs.glyphs c.args.glyphs.now) c.args.from, λ fits. (refl, refl));
+      sought = ([], refl, refl, sought-first sk (g.E.Entries.tests c.args.entries.now) (g.G.Glyphs.glyphs c.args.glyphs.now) c.args.from, λ fits. (refl, refl, tt));
     }
 
 pub returns-in_err-next-clause-reached : goal.returns-in_err-next-clause-reached
@@ -36,5 +36,5 @@ loop-k-preserved g c =
     record {
       len = ap length c.note.ensures ∙ length-set met k index ∙ c.loop-k.invariant.len;
       rest = ap (drop (length tests)) c.note.ensures ∙ drop-set-lt (length tests) met k index (omega arith) ∙ c.loop-k.invariant.rest;
-      sought = sought-on sk tests gs c.args.from c.loop-k.so_far k room (take k met) c.loop-k.invariant.sought (omega arith) c.in_ok-next.next (sym c.next.ensures.next ∙ c.in_ok-next.was) (sym c.meets.ensures ∙ c.if-not-meets.false) (take (k + 1) c.note.new.met) noted;
+      sought = sought-on sk tests gs c.args.from c.loop-k.so_far k room (take k met) c.loop-k.invariant.sought (omega arith) c.in_ok-next.next (sym c.next.ensures.next ∙ c.in_ok-next.was) (sym c.meets.ensures ∙ c.if-not-meets.false) (take (k + 1) c.note.new.met) noted c.in_ok-next.ensures.inside;
     }
