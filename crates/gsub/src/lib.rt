@@ -1,13 +1,13 @@
 // GSUB: the check of a table, and what it means.
 #![tactic(auto)]
 
-mod arrays;
+pub mod arrays;
 pub mod check;
 mod follow;
 mod forms;
 mod lookups;
 pub mod meaning;
-mod rules;
+pub mod rules;
 mod seen;
 mod structures;
 pub mod subtable;

@@ -1,0 +1,9 @@
+// Which candidate of a lookup of a checked GSUB table matches at a position of a run.
+#![tactic(auto)]
+
+mod asks;
+mod entries;
+mod entry_tests;
+pub mod found;
+mod places;
+pub mod records;
