@@ -2,6 +2,8 @@
 #![tactic(auto)]
 
 mod asks;
+mod attempt;
+mod candidate;
 mod entries;
 mod entry_tests;
 pub mod found;
