@@ -1,9 +1,9 @@
 -- Arrays of fields, one by one.
-use Rattle.std.proofs.Common.{◌≡◌, ℕ, zero, suc, ◌+◌, ◌-◌, ◌*◌, ◌<◌, ◌≤◌, Bool, List, [], ◌∷◌, ◌++◌, length, map, get_or, slice_get, Some, None, Option, refl, sym, ap, ◌∙◌, arith}
+use Rattle.std.proofs.Common.{◌≡◌, ℕ, zero, suc, ◌+◌, ◌-◌, ◌*◌, ◌<◌, ◌≤◌, Bool, List, [], ◌∷◌, ◌++◌, drop, length, map, get_or, slice_get, Some, None, Option, refl, sym, ap, ◌∙◌, arith}
 use Rattle.std.proofs.lemmas.List.{get_or_past, length-map}
 use Rattle.layout.specs.Bytes.{u16_at}
-use Rattle.model.specs.Lookups.{LookupRecord}
-use Rattle.gsub.specs.Candidates.{Test, fields, records_from}
+use Rattle.model.specs.Lookups.{Candidate, LookupRecord}
+use Rattle.gsub.specs.Candidates.{Test, fields, records_from, rules_of}
 use Rattle.candidates.specs.declared.found.Record.{Record}
 use Rattle.candidates.specs.Actions.{record_of}
 
@@ -52,3 +52,20 @@ tests-past test t i n k d h = get_or_past (map test (fields t i n)) k d (simp (l
 
 pub length-tests : (test : Test) (t : List ℕ) (i n : ℕ) → length (map test (fields t i n)) ≡ n
 length-tests test t i n = simp (length-map, length-fields) refl
+
+-- rule k of a set
+pub rules-at : (make : ℕ → Candidate) (q : ℕ) (t : List ℕ) (i n k : ℕ) → k < n → drop k (rules_of make q (fields t i n)) ≡ make (q + u16_at t (i + 2 * k)) ∷ drop (k + 1) (rules_of make q (fields t i n))
+rules-at make q t i zero k h = absurd (omega arith)
+rules-at make q t i (suc n) zero h = let e : i ≡ i + 2 * 0 = omega arith in ap (λ b. make (q + u16_at t b) ∷ rules_of make q (fields t (i + 2) n)) e
+rules-at make q t i (suc n) (suc k) h =
+    let e : (i + 2) + 2 * k ≡ i + 2 * suc k = omega arith in
+    let d : k + 1 ≡ suc k = omega arith in
+    let d' : suc k + 1 ≡ suc (suc k) = omega arith in
+    rules-at make q t (i + 2) n k (omega arith)
+    ∙ ap (λ b. make (q + u16_at t b) ∷ drop (k + 1) (rules_of make q (fields t (i + 2) n))) e
+    ∙ ap (λ m. make (q + u16_at t (i + 2 * suc k)) ∷ drop m (rules_of make q (fields t (i + 2) n))) d
+    ∙ ap (λ m. make (q + u16_at t (i + 2 * suc k)) ∷ drop m (rules_of make q (fields t i (suc n)))) (sym d')
+
+pub length-rules : (make : ℕ → Candidate) (q : ℕ) (t : List ℕ) (i n : ℕ) → length (rules_of make q (fields t i n)) ≡ n
+length-rules make q t i zero = refl
+length-rules make q t i (suc n) = ap suc (length-rules make q t (i + 2) n)
