@@ -1,0 +1,43 @@
+-- What the code answers to an attempt, by what the definitions say that it comes to.
+use Rattle.std.specs.Prelude.{◌≡◌, ℕ, ◌<◌, true, false, ◌∷◌, List, [], map, length, Some, None, Option, Ok, Err, Result, nat_lt, nat_le}
+use Rattle.std.specs.List.{AllByRecursion}
+use Rattle.font.specs.Font.{Font}
+use Rattle.gsub.specs.Meaning.{gsub_means}
+use Rattle.model.specs.declared.Entry.{Entry}
+use Rattle.model.specs.Edits.{Frame, edits, frame_at, told}
+use Rattle.model.specs.Laws.{Rising}
+use Rattle.model.specs.Lookups.{Match}
+use Rattle.model.specs.Shaping.{Attempt, Ending, Inputs, State, accepted, barred, hit, miss, stopped, struck}
+use Rattle.shaping.specs.declared.stop.Stop.{Stop}
+use Rattle.shaping.specs.declared.stop.Stop.TheVariants.{HitLimit, Room}
+
+-- What shaping reads, by the definitions: a table by what it means.
+abbrev pub inputs_of : Font → (table : List ℕ) → (plan : List Entry) → (limit room : ℕ) → Inputs
+inputs_of font t plan limit room = record { font = font; table = gsub_means t; plan = plan; limit = limit; room = room }
+
+abbrev pub stop_number : Stop → ℕ
+stop_number HitLimit = 7
+stop_number Room = 8
+
+-- Clusters never fall, and each has one of n marks.
+abbrev pub Ready : (n : ℕ) → State → Type 0
+Ready n s = Rising s.run × AllByRecursion (λ g. g.cluster < n) s.run
+
+-- A match takes effect, or is stopped: by the hit limit first, then by the room. It is open after that, and told of its own edits, as are the matches around it.
+abbrev pub Took : Inputs → Match → (p : ℕ) → State → List Frame → Result (Unit {0}) Stop → State → List Frame → Type 0
+Took inputs m p s fs (Ok u) s' fs' =
+    (nat_lt s.hits inputs.limit ≡ true) × (nat_le (length (struck m p s).run) inputs.room ≡ true) × (s' ≡ struck m p s)
+    × (fs' ≡ map (told (edits m.action m.others p)) (frame_at p m.others ∷ fs))
+Took inputs m p s fs (Err HitLimit) s' fs' = nat_lt s.hits inputs.limit ≡ false
+Took inputs m p s fs (Err Room) s' fs' = (nat_lt s.hits inputs.limit ≡ true) × (nat_le (length (struck m p s).run) inputs.room ≡ false)
+
+-- An attempt that misses changes nothing; a refused one is stopped by that number; a hit answers the match's end, and every open match is told of its edits.
+abbrev pub Comes : Attempt → State → List Frame → Result (Option ℕ) Stop → State → List Frame → Type 0
+Comes miss s fs r s' fs' = (r ≡ Ok None) × (s' ≡ s) × (fs' ≡ fs)
+Comes (barred n) s fs r s' fs' = (stop : Stop) × (r ≡ Err stop) × (stop_number stop ≡ n)
+Comes (hit t e es) s fs r s' fs' = (r ≡ Ok (Some e)) × (s' ≡ t) × (fs' ≡ map (told es) fs)
+
+-- What a pass or a plan comes to.
+abbrev pub ending_of : Result (Unit {0}) Stop → State → Ending
+ending_of (Ok u) s = accepted s
+ending_of (Err stop) s = stopped (stop_number stop)

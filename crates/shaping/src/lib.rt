@@ -1,0 +1,7 @@
+// Shaping: from a checked table, a source and a text to glyphs, break marks and hits.
+#![tactic(auto)]
+
+pub mod plan;
+pub mod refusal;
+pub mod shape;
+mod stop;
