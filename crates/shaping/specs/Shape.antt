@@ -1,5 +1,5 @@
 -- What a call that shapes answers, and what it leaves in the memory lent to it.
-use Rattle.std.specs.Prelude.{ℕ, ◌-◌, List, ◌++◌, length, replicate, Ok, Err, Result}
+use Rattle.std.specs.Prelude.{ℕ, ◌-◌, List, ◌++◌, length, replicate, Some, None, Option, Ok, Err, Result}
 use Rattle.model.specs.declared.Glyph.{Glyph}
 use Rattle.model.specs.Shaping.{Outcome, refused as outcome_refused, shaped}
 use Rattle.run.specs.Runs.{blank}
@@ -18,6 +18,11 @@ refusal_number Room = 8
 abbrev pub of_stop : Stop → Refusal
 of_stop StopHitLimit = HitLimit
 of_stop StopRoom = Room
+
+-- The number of a refusal, if there is one.
+abbrev pub first_number : Result (Unit {0}) Refusal → Option ℕ
+first_number (Ok u) = None
+first_number (Err refusal) = Some (refusal_number refusal)
 
 -- A refusal with its number, or how many glyphs there are and how many hits it took.
 pub data Answer : Type 0 where

@@ -1,7 +1,10 @@
 // Shaping: from a checked table, a source and a text to glyphs, break marks and hits.
 #![tactic(auto)]
 
+mod attempt;
 pub mod plan;
 pub mod refusal;
 pub mod shape;
 mod stop;
+pub mod stub;
+mod work;

@@ -1,0 +1,37 @@
+use Rattle.std.specs.Prelude.{ℕ, suc, ◌+◌, ◌*◌, List, map, take, drop, Some, None, Option}
+use Rattle.std.proofs.Math.Option.{Option as Perhaps, none, some}
+use Rattle.model.specs.declared.Glyph.{Glyph}
+use Rattle.model.specs.Lookups.{LookupRecord, Lookup as ModelLookup, Match, put, join, nest}
+use Rattle.model.specs.Lookups.{Action as ModelAction}
+use Rattle.matching.specs.Seek.{glyph_at, mets_at}
+use Rattle.gsub.specs.Candidates.{records_from}
+use Rattle.gsub.specs.Meaning.{gsub_means}
+use Rattle.shaping.specs.declared.stub.Action.{Action}
+use Rattle.shaping.specs.declared.stub.Action.TheVariants.{Put, Join, Nest}
+use Rattle.shaping.specs.declared.stub.Found.{Found}
+use Rattle.shaping.specs.declared.stub.Glyphs.{Glyphs}
+use Rattle.shaping.specs.declared.stub.Lookup.{Lookup}
+use Rattle.shaping.specs.declared.stub.Record.{Record}
+use Rattle.shaping.specs.declared.stub.Records.{Records}
+
+abbrev pub lookup_of : Lookup → ModelLookup
+lookup_of l = gsub_means l.gsub.table.now l.number
+
+abbrev pub glyphs_in : Glyphs → List ℕ
+glyphs_in gs = take gs.count gs.list
+
+abbrev pub records_of : Records → List LookupRecord
+records_of rs = records_from rs.part.now rs.at rs.count
+
+abbrev pub record_of : LookupRecord → Record
+record_of r = record { index = r.index; lookup = r.lookup }
+
+abbrev pub action_of : Action → ModelAction
+action_of (Put gs) = put (glyphs_in gs)
+action_of (Join n) = join n
+action_of (Nest rs) = nest (records_of rs)
+
+abbrev pub found_at : List Glyph → (p : ℕ) → (met : List ℕ) → Option Found → Perhaps Match
+found_at gs p met None = none
+found_at gs p met (Some f) =
+    some (record { action = action_of f.action; others = mets_at (drop (suc p) gs) 0 (take f.inputs met); own = (glyph_at gs p).cluster; lo = f.span.lo; hi = f.span.hi })

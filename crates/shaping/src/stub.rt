@@ -1,0 +1,104 @@
+ghost use Rattle.std.specs.Prelude.{◌≡◌, ◌≤◌, ◌<◌, suc, cond, length, drop, take, reverse, map, slice_get, IfSome, None};
+ghost use Rattle.std.proofs.Math.Option.{none};
+ghost use Rattle.gsub.specs.Meaning.{gsub_means};
+ghost use Rattle.matching.specs.Seek.{Outward, glyph_at};
+ghost use Rattle.model.specs.Lookups.{choose, passes_over};
+ghost use Rattle.run.specs.Contents.{glyphs_of};
+ghost use Rattle.shaping.specs.Stub.{found_at, glyphs_in, lookup_of, record_of, records_of};
+
+use font::source::FontSource;
+use gsub::table::Gsub;
+use matching::pattern::Span;
+use run::Run;
+
+#[derive(Clone, Copy)]
+pub struct Record {
+    pub index: u16,
+    pub lookup: u16,
+}
+
+#[derive(Clone, Copy)]
+pub struct Records<'a> {
+    pub(crate) part: &'a [u8],
+    pub(crate) at: usize,
+    pub(crate) count: usize,
+}
+
+#[derive(Clone, Copy)]
+pub struct Glyphs {
+    pub list: [u16; 64],
+    pub count: usize,
+    ghost fits: { count ≤ 64 },
+}
+
+#[derive(Clone, Copy)]
+pub enum Action<'a> {
+    Put(Glyphs),
+    Join(u16),
+    Nest(Records<'a>),
+}
+
+#[derive(Clone, Copy)]
+pub struct Found<'a> {
+    pub action: Action<'a>,
+    pub span: Span,
+    pub inputs: usize,
+}
+
+impl Records<'_> {
+    pub fn len(&self) -> usize
+        ensures { result ≡ length (records_of self.now) }
+    {
+        self.count
+    }
+
+    pub fn get(&self, i: usize) -> Option<Record>
+        ensures { result ≡ slice_get (map record_of (records_of self.now)) i }
+    {
+        None
+    }
+}
+
+impl Glyphs {
+    pub fn as_slice(&self) -> &[u16]
+        ensures glyphs { result.now ≡ glyphs_in self.now }
+        ensures few { length result.now ≤ 64 }
+    {
+        &self.list[..self.count]
+    }
+}
+
+#[derive(Clone, Copy)]
+pub struct Lookup<'a> {
+    gsub: Gsub<'a>,
+    number: u16,
+}
+
+impl<'a> Lookup<'a> {
+    pub fn of(gsub: Gsub<'a>, number: u16) -> Lookup<'a>
+        ensures { lookup_of result ≡ gsub_means gsub.table.now number }
+    {
+        Lookup { gsub, number }
+    }
+
+    pub fn is_backward(&self) -> bool
+        ensures { result ≡ (lookup_of self.now).backward }
+    {
+        false
+    }
+
+    pub fn choose<S: FontSource>(
+        &self,
+        source: &S,
+        alternate: u16,
+        run: &Run<'_>,
+        p: usize,
+        met: &mut [usize; 63],
+    ) -> Option<Found<'a>>
+        ensures chosen { p < length (glyphs_of run.now) → found_at (glyphs_of run.now) p met.new result ≡ cond (passes_over (S.FontSource.means source.now) (lookup_of self.now) (glyph_at (glyphs_of run.now) p).glyph) none (choose (passes_over (S.FontSource.means source.now) (lookup_of self.now)) ((lookup_of self.now).candidates alternate (glyph_at (glyphs_of run.now) p).glyph) (reverse (take p (glyphs_of run.now))) (glyph_at (glyphs_of run.now) p).cluster (drop (suc p) (glyphs_of run.now))) }
+        ensures past { length (glyphs_of run.now) ≤ p → result ≡ None }
+        ensures outward { IfSome result (λ f. (f.inputs ≤ 63) × Outward 0 (length (drop (suc p) (glyphs_of run.now))) (take f.inputs met.new)) }
+    {
+        None
+    }
+}
