@@ -1,5 +1,5 @@
 -- An attempt by its parts: the candidate chosen, its match, the records that it runs.
-use Rattle.std.proofs.Common.{◌≡◌, ℕ, zero, suc, ◌+◌, ◌<◌, ◌≤◌, Bool, true, false, cond, ltb, leb, List, [], ◌∷◌, ◌++◌, map, length, take, drop, reverse, Some, None, Option, Ok, Err, Result, refl, sym, ap, ◌∙◌, subst, arith}
+use Rattle.std.proofs.Common.{◌≡◌, ℕ, zero, suc, ◌+◌, ◌<◌, ◌≤◌, Bool, true, false, cond, ltb, leb, List, [], ◌∷◌, ◌++◌, map, length, take, drop, reverse, slice_get, Some, None, Option, Ok, Err, Result, refl, sym, ap, ◌∙◌, subst, arith}
 use Rattle.std.proofs.Math.Option.{Option as Perhaps, none, some}
 use Rattle.std.proofs.Math.ListN.{get_elem?}
 use Rattle.std.proofs.lemmas.List.{map-id, drop_more, drop_all}
@@ -114,3 +114,28 @@ module _ (try : Try) (rs : List LookupRecord) (f₀ : Frame) (s₀ : State) (fs�
 
   pub ran-all : (i : ℕ) (s : State) (fs : List Frame) → Ran i s fs → length rs ≤ i → (f : Frame) × (es : List Edit) × (records try rs f₀ [] s₀ ≡ hit s f.«end» es) × (fs ≡ f ∷ map (told es) fs₀)
   ran-all i s fs ran h = (ran.0, ran.1, ran.2 ∙ ap (λ xs. records try xs ran.0 ran.1 s) (drop_all i rs h), ran.3)
+
+-- an element of a list, by the library's search and by the definitions'
+pub elem-none : {A : Type 0} (xs : List A) (i : ℕ) → None ≡ slice_get xs i → get_elem? xs i ≡ none
+elem-none [] i e = refl
+elem-none (x ∷ xs) zero e = absurd cc
+elem-none (x ∷ xs) (suc i) e = elem-none xs i e
+
+pub elem-some : {A : Type 0} (xs : List A) (i : ℕ) (x : A) → Some x ≡ slice_get xs i → get_elem? xs i ≡ some x
+elem-some [] i x e = absurd cc
+elem-some (x ∷ xs) zero y e = let same : x ≡ y = cc in ap some same
+elem-some (x ∷ xs) (suc i) y e = elem-some xs i y e
+
+module _ (inputs : Inputs) (f : Frame) (l i depth alternate : ℕ) (s : State) where
+  -- an index past the list, a lookup that goes backward, and any other
+  pub idle-past : None ≡ slice_get f.positions i → at_index (inner inputs (attempt inputs depth alternate)) l (get_elem? f.positions i) s ≡ miss
+  idle-past e = ap (λ o. at_index (inner inputs (attempt inputs depth alternate)) l o s) (elem-none f.positions i e)
+
+  runs-at : (q : ℕ) → Some q ≡ slice_get f.positions i → at_index (inner inputs (attempt inputs depth alternate)) l (get_elem? f.positions i) s ≡ cond (inputs.table l).backward miss (attempt inputs depth alternate l q s)
+  runs-at q e = ap (λ o. at_index (inner inputs (attempt inputs depth alternate)) l o s) (elem-some f.positions i q e)
+
+  pub idle-backward : (q : ℕ) → Some q ≡ slice_get f.positions i → (inputs.table l).backward ≡ true → at_index (inner inputs (attempt inputs depth alternate)) l (get_elem? f.positions i) s ≡ miss
+  idle-backward q e b = runs-at q e ∙ ap (λ t. cond t miss (attempt inputs depth alternate l q s)) b
+
+  pub runs-forward : (q : ℕ) → Some q ≡ slice_get f.positions i → (inputs.table l).backward ≡ false → at_index (inner inputs (attempt inputs depth alternate)) l (get_elem? f.positions i) s ≡ attempt inputs depth alternate l q s
+  runs-forward q e b = runs-at q e ∙ ap (λ t. cond t miss (attempt inputs depth alternate l q s)) b

@@ -6,13 +6,13 @@ use Rattle.model.specs.Lookups.{Action as ModelAction}
 use Rattle.matching.specs.Seek.{glyph_at, mets_at}
 use Rattle.gsub.specs.Candidates.{records_from}
 use Rattle.gsub.specs.Meaning.{gsub_means}
-use Rattle.shaping.specs.declared.stub.Action.{Action}
-use Rattle.shaping.specs.declared.stub.Action.TheVariants.{Put, Join, Nest}
-use Rattle.shaping.specs.declared.stub.Found.{Found}
-use Rattle.shaping.specs.declared.stub.Glyphs.{Glyphs}
-use Rattle.shaping.specs.declared.stub.Lookup.{Lookup}
-use Rattle.shaping.specs.declared.stub.Record.{Record}
-use Rattle.shaping.specs.declared.stub.Records.{Records}
+use Rattle.shaping.specs.declared.found.Action.{Action}
+use Rattle.shaping.specs.declared.found.Action.TheVariants.{Put, Join, Nest}
+use Rattle.shaping.specs.declared.found.Found.{Found}
+use Rattle.shaping.specs.declared.found.Glyphs.{Glyphs}
+use Rattle.shaping.specs.declared.found.Lookup.{Lookup}
+use Rattle.shaping.specs.declared.found.Record.{Record}
+use Rattle.shaping.specs.declared.found.Records.{Records}
 
 abbrev pub lookup_of : Lookup → ModelLookup
 lookup_of l = gsub_means l.gsub.table.now l.number

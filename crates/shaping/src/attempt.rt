@@ -10,7 +10,7 @@ ghost use Rattle.shaping.specs.Work.{Lent, state_of};
 
 use crate::shape::Inputs;
 use crate::stop::Stop;
-use crate::stub::{Action, Lookup, Records};
+use crate::found::{Action, Lookup, Records};
 use crate::work::Work;
 use font::source::FontSource;
 

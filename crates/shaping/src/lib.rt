@@ -2,6 +2,7 @@
 #![tactic(auto)]
 
 mod attempt;
+pub mod found;
 pub mod plan;
 pub mod refusal;
 pub mod shape;

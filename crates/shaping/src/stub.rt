@@ -8,42 +8,8 @@ ghost use Rattle.shaping.specs.Stub.{found_at, glyphs_in, lookup_of, record_of, 
 
 use font::source::FontSource;
 use gsub::table::Gsub;
-use matching::pattern::Span;
+use crate::found::{Found, Glyphs, Lookup, Record, Records};
 use run::Run;
-
-#[derive(Clone, Copy)]
-pub struct Record {
-    pub index: u16,
-    pub lookup: u16,
-}
-
-#[derive(Clone, Copy)]
-pub struct Records<'a> {
-    pub(crate) part: &'a [u8],
-    pub(crate) at: usize,
-    pub(crate) count: usize,
-}
-
-#[derive(Clone, Copy)]
-pub struct Glyphs {
-    pub list: [u16; 64],
-    pub count: usize,
-    ghost fits: { count ≤ 64 },
-}
-
-#[derive(Clone, Copy)]
-pub enum Action<'a> {
-    Put(Glyphs),
-    Join(u16),
-    Nest(Records<'a>),
-}
-
-#[derive(Clone, Copy)]
-pub struct Found<'a> {
-    pub action: Action<'a>,
-    pub span: Span,
-    pub inputs: usize,
-}
 
 impl Records<'_> {
     pub fn len(&self) -> usize
@@ -68,15 +34,9 @@ impl Glyphs {
     }
 }
 
-#[derive(Clone, Copy)]
-pub struct Lookup<'a> {
-    gsub: Gsub<'a>,
-    number: u16,
-}
-
 impl<'a> Lookup<'a> {
     pub fn of(gsub: Gsub<'a>, number: u16) -> Lookup<'a>
-        ensures { lookup_of result ≡ gsub_means gsub.table.now number }
+        ensures { lookup_of result ≡ gsub_means gsub.entry.table.now number }
     {
         Lookup { gsub, number }
     }

@@ -6,7 +6,7 @@ ghost use Rattle.shaping.specs.Work.{Lent, state_of};
 
 use crate::shape::Inputs;
 use crate::stop::Stop;
-use crate::stub::{Action, Found};
+use crate::found::{Action, Found};
 use editing::editing::Editing;
 use font::source::FontSource;
 use ties::tie;

@@ -1,0 +1,4 @@
+use Rattle.shaping.proofs.found.Records.get.Goals as goal
+
+pub returns : goal.returns
+returns c = ?
