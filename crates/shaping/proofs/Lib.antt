@@ -1,3 +1,4 @@
 pub mod Attempts
 pub mod Passing
 pub mod Laying
+pub mod Depth

@@ -1,4 +1,4 @@
-use Rattle.std.proofs.Common.{◌≡◌, length}
+use Rattle.std.proofs.Common.{◌≡◌, ◌+◌, ◌-◌, ◌≤◌, ◌∷◌, List, length}
 use Rattle.model.specs.Edits.{Frame}
 use Rattle.model.specs.Shaping.{attempt}
 use Rattle.model.proofs.Chain.{inner}
@@ -16,4 +16,10 @@ decreases-attempt g l = l.depth
 abbrev pub invariant-loop-i : goal.invariant-loop-i
 invariant-loop-i g l =
     let inputs = inputs_of (g.S.FontSource.means l.fn.self.source.now) l.fn.self.table.table.now l.fn.self.plan.now l.fn.self.limit (room_of l.fn.work.editing) in
-    (f : Frame) × (open_of l.initial.work.editing ≡ f ∷ _) × ?
+    record {
+      ran : (f₀ : Frame) (fs₀ : List Frame) → open_of l.initial.work.editing ≡ f₀ ∷ fs₀
+          → Ran (inner inputs (attempt inputs (l.depth - 1) l.alternate)) (records_of l.records) f₀ (state_of l.initial.work) fs₀ l.i (state_of l.work) (open_of l.work.editing);
+      ready : Ready (length l.work.ties.now) (state_of l.work);
+      lent : Lent l.work l.fn.work;
+      deep : length (open_of l.work.editing) + (l.depth - 1) ≤ 6;
+    }
