@@ -19,7 +19,7 @@ pub struct Editing<'a> {
     frames: [Frame; 6],
     depth: usize,
     ghost few: { depth ≤ 6 },
-    ghost inside: { AllByRecursion (Inside (length (glyphs_in run))) (innermost_first (take depth frames)) } by { Prim.hlevel props },
+    ghost inside: { AllByRecursion (Inside (length (glyphs_in run))) (map frame_of (take depth frames)) } by { Prim.hlevel props },
 }
 
 impl<'a> Editing<'a> {
@@ -56,6 +56,60 @@ impl<'a> Editing<'a> {
         Some(self.frames[last])
     }
 
+    // Opens a match at position `p`, with further input at these indices, counted from the glyph behind it. False, and nothing changes, where six matches are open, the input is of more than 64 glyphs, or it does not rise in the run.
+    pub fn open_match(&mut self, p: usize, met: &[usize]) -> bool
+        ensures answer { p < length (glyphs_of self.old) → Outward 0 (length (drop (suc p) (glyphs_of self.old))) met.now → length met.now ≤ 63 → length (open_of self.old) < 6 → result ≡ true }
+        ensures open { result ≡ true → open_of self.new ≡ frame_at p (mets_at (drop (suc p) (glyphs_of self.old)) 0 met.now) ∷ open_of self.old }
+        ensures unchanged { result ≡ false → open_of self.new ≡ open_of self.old }
+        ensures glyphs { glyphs_of self.new ≡ glyphs_of self.old }
+        ensures fits { length (glyphs_of self.new) ≤ room_of self.new }
+        ensures room { room_of self.new ≡ room_of self.old }
+        ensures lender { lender_of self.new ≡ lender_of self.old }
+    {
+        let len = self.run.len();
+        if self.depth == 6 || met.len() > 63 || p >= len || !rise_within(met, len - p - 1) {
+            return false;
+        }
+        self.frames[self.depth] = Frame::at(p, met);
+        self.depth += 1;
+        true
+    }
+
+    // Closes the innermost open match and answers its end; 0 where none is open.
+    pub fn close_match(&mut self) -> usize
+        ensures closed { (f : Open) (fs : List Open) → open_of self.old ≡ f ∷ fs → (result ≡ f.«end») × (open_of self.new ≡ fs) }
+        ensures none { open_of self.old ≡ [] → (result ≡ 0) × (open_of self.new ≡ []) }
+        ensures inside { result ≤ length (glyphs_of self.new) }
+        ensures glyphs { glyphs_of self.new ≡ glyphs_of self.old }
+        ensures room { room_of self.new ≡ room_of self.old }
+        ensures lender { lender_of self.new ≡ lender_of self.old }
+    {
+        let Some(frame) = self.innermost() else {
+            return 0;
+        };
+        self.depth -= 1;
+        frame.end()
+    }
+
+    // The glyph at `p` gives way to these, which have its cluster. False, and nothing changes, where there is no such glyph, or no room.
+    pub fn put(&mut self, p: usize, glyphs: &[u16]) -> bool
+        ensures answer { result ≡ (nat_lt p (length (glyphs_of self.old)) && nat_le (length (glyphs_of self.old) + length glyphs.now) (room_of self.old + 1)) }
+        ensures room_test { p < length (glyphs_of self.old) → (others : List Met) → result ≡ nat_le (length (changed (put glyphs.now) (glyph_at (glyphs_of self.old) p).cluster others p (glyphs_of self.old))) (room_of self.old) }
+        ensures glyphs { result ≡ true → (others : List Met) → glyphs_of self.new ≡ changed (put glyphs.now) (glyph_at (glyphs_of self.old) p).cluster others p (glyphs_of self.old) }
+        ensures open { result ≡ true → (others : List Met) → open_of self.new ≡ map (told (edits (put glyphs.now) others p)) (open_of self.old) }
+        ensures unchanged { result ≡ false → (glyphs_of self.new ≡ glyphs_of self.old) × (open_of self.new ≡ open_of self.old) }
+        ensures fits { length (glyphs_of self.new) ≤ room_of self.new }
+        ensures room { room_of self.new ≡ room_of self.old }
+        ensures lender { lender_of self.new ≡ lender_of self.old }
+    {
+        if !self.run.replace(p, glyphs) {
+            return false;
+        }
+        prove!(self.run.len() <= self.run.room());
+        tell_all(&mut self.frames, self.depth, p, glyphs.len());
+        true
+    }
+
     // The run, with its changes.
     pub fn into_run(self) -> Run<'a>
         ensures glyphs { glyphs_in result ≡ glyphs_of self.entry }
@@ -66,18 +120,20 @@ impl<'a> Editing<'a> {
     }
 }
 
-// Tells every open match that the glyph at `position` gave way to `into` glyphs.
-pub(crate) fn tell_all(frames: &mut [Frame], position: usize, into: usize)
-    requires { (n : ℕ) × AllByRecursion (Inside n) (map frame_of frames.old) × Fits n position into }
-    ensures { map frame_of frames.new ≡ map (told (edit position into)) (map frame_of frames.old) }
+// Tells the first `depth` frames that the glyph at `position` gave way to `into` glyphs.
+fn tell_all(frames: &mut [Frame], depth: usize, position: usize, into: usize)
+    requires few { depth ≤ length frames.old }
+    requires inside { (n : ℕ) × AllByRecursion (Inside n) (map frame_of (take depth frames.old)) × Fits n position into }
+    ensures told { map frame_of (take depth frames.new) ≡ map (told (edit position into)) (map frame_of (take depth frames.old)) }
+    ensures len { length frames.new ≡ length frames.old }
 {
-    for frame in frames.iter_mut() {
-        frame.tell(position, into);
+    for k in 0..depth {
+        frames[k].tell(position, into);
     }
 }
 
 // Whether indices rise and lie before `n`.
-pub(crate) fn rise_within(met: &[usize], n: usize) -> bool
+fn rise_within(met: &[usize], n: usize) -> bool
     ensures rise { result ≡ true → Outward 0 n met.now }
     ensures all { Outward 0 n met.now → result ≡ true }
 {
