@@ -2,3 +2,5 @@ pub mod Adds
 pub mod Moves
 pub mod Opens
 pub mod Tables
+pub mod Removals
+pub mod Joins

@@ -1,8 +1,9 @@
 ghost use Rattle.std.proofs.Props.{props};
-ghost use Rattle.std.specs.Prelude.{◌≡◌, ℕ, ◌+◌, ◌≤◌, ◌<◌, ◌∷◌, ◌&&◌, [], List, true, false, suc, cond, take, drop, map, length, nat_lt, nat_le, slice_get, option_map, IfSome, None};
+ghost use Rattle.std.specs.Prelude.{◌≡◌, ℕ, ◌+◌, ◌-◌, ◌^◌, ◌++◌, ◌≤◌, ◌<◌, ◌∷◌, ◌&&◌, [], List, true, false, suc, cond, take, drop, map, length, nat_lt, nat_le, slice_get, option_map, IfSome, None};
 ghost use Rattle.std.specs.List.{AllByRecursion};
-ghost use Rattle.model.specs.Lookups.{Met, put, join};
-ghost use Rattle.model.specs.Edits.{Frame as Open, told, edits, changed, frame_at};
+ghost use Rattle.model.specs.declared.Glyph.{Glyph};
+ghost use Rattle.model.specs.Lookups.{Met, far as far_of, put, join};
+ghost use Rattle.model.specs.Edits.{Frame as Open, told, edits, changed, frame_at, removals, without};
 ghost use Rattle.model.specs.Laws.{Rising};
 ghost use Rattle.matching.specs.Seek.{Outward, glyph_at, mets_at};
 ghost use Rattle.run.specs.Contents.{glyphs_of as glyphs_in, room_of as room_in, lender_of as lender_in};
@@ -108,6 +109,65 @@ impl<'a> Editing<'a> {
         prove!(self.run.len() <= self.run.room());
         tell_all(&mut self.frames, self.depth, p, glyphs.len());
         true
+    }
+
+    // Joins the glyph at `p` and those with these indices, counted from the glyph behind it, into a ligature. It stands at `p`, the others go, and clusters merge from the first to the last of them. Nothing changes where the indices do not rise in the run.
+    pub fn join(&mut self, p: usize, ligature: u16, met: &[usize])
+        ensures glyphs { p < length (glyphs_of self.old) → Rising (glyphs_of self.old) → Outward 0 (length (drop (suc p) (glyphs_of self.old))) met.now → glyphs_of self.new ≡ changed (join ligature) (glyph_at (glyphs_of self.old) p).cluster (mets_at (drop (suc p) (glyphs_of self.old)) 0 met.now) p (glyphs_of self.old) }
+        ensures open { p < length (glyphs_of self.old) → Outward 0 (length (drop (suc p) (glyphs_of self.old))) met.now → open_of self.new ≡ map (told (edits (join ligature) (mets_at (drop (suc p) (glyphs_of self.old)) 0 met.now) p)) (open_of self.old) }
+        ensures fits { length (glyphs_of self.new) ≤ room_of self.new }
+        ensures room { room_of self.new ≡ room_of self.old }
+        ensures lender { lender_of self.new ≡ lender_of self.old }
+    {
+        let len = self.run.len();
+        if p >= len || !rise_within(met, len - p - 1) {
+            return;
+        }
+        let own = self.cluster(p);
+        let far = self.far(p + 1, own, met);
+        self.run.merge(p, own, far);
+        self.run.replace(p, &[ligature]);
+        self.remove(p + 1, met);
+    }
+
+    // The cluster of the glyph at `i`; 0 where there is none.
+    fn cluster(&self, i: usize) -> u32
+        ensures { result ≡ (glyph_at (glyphs_of self.now) i).cluster }
+    {
+        match self.run.get(i) {
+            Some(glyph) => glyph.cluster,
+            None => 0,
+        }
+    }
+
+    // The cluster of the last of the glyphs with these indices, counted from `from` on; `own` where there is none.
+    fn far(&self, from: usize, own: u32, met: &[usize]) -> u32
+        requires few { length (glyphs_of self.now) < 2 ^ 64 }
+        requires inside { from ≤ length (glyphs_of self.now) }
+        requires rising { Outward 0 (length (glyphs_of self.now) - from) met.now }
+        ensures { result ≡ far_of own (mets_at (drop from (glyphs_of self.now)) 0 met.now) }
+    {
+        match met.last() {
+            Some(&last) => self.cluster(from + last),
+            None => own,
+        }
+    }
+
+    // Removes the glyphs with these indices, counted from `from` on, the nearest first.
+    fn remove(&mut self, from: usize, met: &[usize])
+        requires fits { length (glyphs_of self.old) ≤ room_of self.old }
+        requires few { length (glyphs_of self.old) < 2 ^ 64 }
+        requires inside { from ≤ length (glyphs_of self.old) }
+        requires rising { Outward 0 (length (glyphs_of self.old) - from) met.now }
+        ensures glyphs { (gs : List Glyph) → glyphs_of self.new ≡ take from (glyphs_of self.old) ++ without (mets_at gs 0 met.now) (drop from (glyphs_of self.old)) }
+        ensures open { (gs : List Glyph) → open_of self.new ≡ map (told (removals from (mets_at gs 0 met.now))) (open_of self.old) }
+        ensures fits { length (glyphs_of self.new) ≤ room_of self.new }
+        ensures room { room_of self.new ≡ room_of self.old }
+        ensures lender { lender_of self.new ≡ lender_of self.old }
+    {
+        for (k, &index) in met.iter().enumerate() {
+            self.put(from + (index - k), &[]);
+        }
     }
 
     // The run, with its changes.
