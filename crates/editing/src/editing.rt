@@ -170,7 +170,7 @@ impl<'a> Editing<'a> {
         }
     }
 
-    // The run, with its changes.
+    // The run, with its changes. Where it was taken out of a `&mut Run`, put it back there before it is closed: a lender that moves it by value learns no more than the length of its memory.
     pub fn into_run(self) -> Run<'a>
         ensures glyphs { glyphs_in result ≡ glyphs_of self.entry }
         ensures room { room_in result ≡ room_of self.entry }

@@ -1,9 +1,11 @@
 ghost use Rattle.std.specs.Prelude.{◌≡◌, ◌-◌, ◌∷◌, length, replicate, OnOk};
 ghost use Rattle.run.specs.Runs.{blank};
+ghost use Rattle.run.specs.Contents.{glyphs_of, room_of, lender_of};
 
 use crate::editing::Editing;
 use model::Glyph;
 use run::Run;
+use std::mem;
 use std::process::Abort;
 use std::test::Fail;
 
@@ -151,14 +153,26 @@ fn a_match_too_long(rt: HostRuntime) -> Result<(), Fail> {
     Ok(())
 }
 
+// The run is taken out, changed, and put back.
+fn put_back(run: &mut Run<'_>)
+    ensures glyphs { glyphs_of run.new ≡ glyphs_of run.old }
+    ensures room { room_of run.new ≡ room_of run.old }
+    ensures lender { lender_of run.new ≡ lender_of run.old }
+{
+    let mut editing = Editing::new(mem::replace(run, Run::new(&mut [])));
+    editing.open_match(0, &[]);
+    editing.close_match();
+    *run = editing.into_run();
+}
+
 // A caller knows what its memory holds once the run is closed.
 fn lay_one(slots: &mut [Glyph], glyph: Glyph) -> Result<(), Glyph>
     ensures laid { OnOk result (slots.new ≡ glyph ∷ replicate (length slots.old - 1) blank) }
 {
     let mut run = Run::new(slots);
     let laid = run.push(glyph);
-    let editing = Editing::new(run);
-    editing.into_run().close();
+    put_back(&mut run);
+    run.close();
     laid
 }
 
