@@ -106,6 +106,7 @@ impl<'a> Editing<'a> {
         if !self.run.replace(p, glyphs) {
             return false;
         }
+        // So no position of the changed run is too large to count.
         prove!(self.run.len() <= self.run.room());
         tell_all(&mut self.frames, self.depth, p, glyphs.len());
         true
@@ -176,7 +177,8 @@ impl<'a> Editing<'a> {
         ensures room { room_in result ≡ room_of self.entry }
         ensures lender { lender_in result ≡ lender_of self.entry }
     {
-        self.run
+        let Editing { run, .. } = self;
+        run
     }
 }
 
