@@ -4,3 +4,4 @@ pub mod Opens
 pub mod Tables
 pub mod Removals
 pub mod Joins
+pub mod Positions

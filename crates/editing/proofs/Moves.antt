@@ -11,7 +11,7 @@ take-again (suc n) (x ∷ xs) ys = ap (λ l. x ∷ l) (take-again n xs ys)
 
 moved_all-append : (e : Edit) (ps qs : List ℕ) → moved_all e (ps ++ qs) ≡ moved_all e ps ++ moved_all e qs
 moved_all-append e [] qs = refl
-moved_all-append e (p ∷ ps) qs = 
+moved_all-append e (p ∷ ps) qs =
     let one : List ℕ = moved_to (ltb p e.position) (eqb p e.position) p e.into in
     ap (λ l. one ++ l) (moved_all-append e ps qs) ∙ sym (append_assoc one (moved_all e ps) (moved_all e qs))
 

@@ -106,6 +106,7 @@ impl<'a> Editing<'a> {
         if !self.run.replace(p, glyphs) {
             return false;
         }
+        // So no position of the changed run is too large to count.
         prove!(self.run.len() <= self.run.room());
         tell_all(&mut self.frames, self.depth, p, glyphs.len());
         true
@@ -170,13 +171,14 @@ impl<'a> Editing<'a> {
         }
     }
 
-    // The run, with its changes.
+    // The run, with its changes. Where it was taken out of a `&mut Run`, put it back there before it is closed: a lender that moves it by value learns no more than the length of its memory.
     pub fn into_run(self) -> Run<'a>
         ensures glyphs { glyphs_in result ≡ glyphs_of self.entry }
         ensures room { room_in result ≡ room_of self.entry }
         ensures lender { lender_in result ≡ lender_of self.entry }
     {
-        self.run
+        let Editing { run, .. } = self;
+        run
     }
 }
 

@@ -3,7 +3,6 @@ ghost use Rattle.model.specs.declared.Glyph.{Glyph};
 ghost use Rattle.matching.specs.Seek.{Outward, mets_at};
 ghost use Rattle.model.specs.Edits.{up_from, moved_all, moved_end as moved_end_of, told, frame_at};
 
-
 // An open match: the positions of its input glyphs, at most 64, and the position just after the last of them.
 #[derive(Clone, Copy)]
 pub struct Frame {
@@ -118,9 +117,5 @@ fn moved_end(end: usize, position: usize, into: usize) -> usize
     requires { end + into ≤ 2 ^ 64 }
     ensures { result ≡ moved_end_of (record { position = position; into = into }) end }
 {
-    if end <= position {
-        end
-    } else {
-        end - 1 + into
-    }
+    if end <= position { end } else { end - 1 + into }
 }
