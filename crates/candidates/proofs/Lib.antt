@@ -1,1 +1,2 @@
 mod Fields
+mod Parts
