@@ -1,2 +1,3 @@
 mod Fields
 mod Parts
+mod Follows
