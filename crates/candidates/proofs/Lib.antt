@@ -1,3 +1,5 @@
 mod Fields
 mod Parts
 mod Follows
+mod RuleParts
+mod Sounds

@@ -9,7 +9,7 @@ use Rattle.layout.specs.declared.array.Third.{Third}
 use Rattle.layout.specs.declared.array.Third.TheVariants.{Any, StartIndex, GlyphsTo65535}
 use Rattle.layout.specs.Bytes.{u16_at, u32_at}
 use Rattle.layout.specs.Classes.{class_faults, list_faults, range_faults}
-use Rattle.layout.specs.Coverages.{coverage_faults, kind_of}
+use Rattle.layout.specs.Coverages.{coverage_faults, coverage_ranges, kind_of}
 use Rattle.layout.specs.Faults.{first_in, unless, extent, format_faults}
 use Rattle.layout.specs.Ranges.{field_size, field_count, entry_size, range_at, ranges_from, third_faults, entry_faults, order_faults, array_faults, counted_faults}
 use Rattle.layout.proofs.Arrays.{extent-none}
@@ -102,6 +102,12 @@ module _ (t : List ℕ) (s : ℕ) where
       let n : u16_at t (j + 2) ≡ u16_at (drop s t) (i + 2) = u16-part (i + 2) (j + 2) (omega arith) in
       first-behind (extent (drop s t) i (i + 2) 2 1) _ (extent-part j i (i + 2) (j + 2) 2 1 (omega arith) p.0)
       ∙ subst (λ m. first_in (array_faults third kind (drop s t) i (i + 4) m) ≡ None) n (array-part third kind j i (i + 4) (j + 4) (u16_at t (j + 2)) (omega arith) p.1)
+
+  pub coverage_ranges-part : (i j : ℕ) → j ≡ s + i → coverage_ranges t j ≡ coverage_ranges (drop s t) i
+  coverage_ranges-part i j e =
+      let n : u16_at t (j + 2) ≡ u16_at (drop s t) (i + 2) = u16-part (i + 2) (j + 2) (omega arith) in
+      ranges-part (kind_of (u16_at t j)) (i + 4) (j + 4) 0 (u16_at t (j + 2)) (omega arith)
+      ∙ (ap (λ f. ranges_from (kind_of f) (drop s t) (i + 4) 0 (u16_at t (j + 2))) (u16-part i j e) ∙ ap (λ m. ranges_from (kind_of (u16_at (drop s t) i)) (drop s t) (i + 4) 0 m) n)
 
   pub coverage-part : (i j : ℕ) → j ≡ s + i → first_in (coverage_faults t j) ≡ None → first_in (coverage_faults (drop s t) i) ≡ None
   coverage-part i j e none =
