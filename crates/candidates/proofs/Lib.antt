@@ -3,3 +3,4 @@ mod Parts
 mod Follows
 mod RuleParts
 mod Sounds
+mod Accepted

@@ -10,6 +10,8 @@ pub mod found;
 mod forms;
 mod list;
 mod listed;
+pub mod lookup;
+mod lookups;
 mod made;
 mod places;
 pub mod records;
