@@ -4,3 +4,5 @@ mod Follows
 mod RuleParts
 mod Sounds
 mod Accepted
+mod Chosens
+mod Flags

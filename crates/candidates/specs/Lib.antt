@@ -5,3 +5,4 @@ pub mod Sets
 pub mod Sound
 pub mod Placed
 pub mod LookupOf
+pub mod Chosen

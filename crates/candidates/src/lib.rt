@@ -4,6 +4,7 @@
 mod asks;
 mod attempt;
 mod candidate;
+mod choose;
 mod entries;
 mod entry_tests;
 pub mod found;
