@@ -1,5 +1,5 @@
 -- The subtables of a table that was accepted are sound.
-use Rattle.std.proofs.Common.{◌≡◌, ℕ, ◌+◌, ◌*◌, ◌<◌, Bool, true, false, cond, eqb, List, [], ◌∷◌, ◌++◌, drop, Some, None, sym, subst, arith}
+use Rattle.std.proofs.Common.{◌≡◌, ℕ, ◌+◌, ◌*◌, ◌<◌, Bool, true, false, cond, eqb, List, [], ◌∷◌, drop, Some, None, sym, subst, arith}
 use Rattle.layout.specs.Bytes.{u16_at, u32_at}
 use Rattle.layout.specs.Faults.{first_in, too_long, reports, own_place}
 use Rattle.layout.specs.declared.fault.TableName.TheVariants.{Gsub}

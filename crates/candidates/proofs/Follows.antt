@@ -1,13 +1,12 @@
 -- What offsets of a table without faults lead to, and the index of a covered glyph.
-use Rattle.std.proofs.Common.{◌≡◌, ◌≢◌, ℕ, zero, suc, ◌+◌, ◌*◌, ◌-◌, ◌<◌, ◌≤◌, Bool, true, false, cond, eqb, leb, ◌&&◌, List, [], ◌∷◌, ◌++◌, Some, None, Option, refl, sym, ap, subst, ◌∙◌, arith}
-use Rattle.std.proofs.lemmas.Bool.{leb-true}
+use Rattle.std.proofs.Common.{◌≡◌, ◌≢◌, ℕ, ◌+◌, ◌*◌, ◌-◌, ◌<◌, ◌≤◌, Bool, true, false, cond, eqb, leb, ◌&&◌, List, [], ◌∷◌, Some, None, refl, arith}
 use Rattle.std.proofs.lemmas.Bool.Decides.{nat_tests}
 use Rattle.layout.specs.declared.array.Kind.{Kind}
 use Rattle.layout.specs.declared.array.Range.{Range}
 use Rattle.layout.specs.declared.array.Third.TheVariants.{StartIndex}
 use Rattle.layout.specs.Bytes.{u16_at}
 use Rattle.layout.specs.Coverages.{coverage_faults, coverage_index, coverage_ranges, index_in, kind_of}
-use Rattle.layout.specs.Faults.{first_in, unless, extent, in_turn}
+use Rattle.layout.specs.Faults.{first_in, unless, extent}
 use Rattle.layout.specs.Ranges.{entry_faults, entry_size, holding, holds, order_faults, size}
 use Rattle.layout.proofs.Arrays.{start_is, array-order, counted-array, coverage-counted}
 use Rattle.layout.proofs.Firsts.{none-parts, unless-none}

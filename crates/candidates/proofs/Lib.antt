@@ -5,4 +5,3 @@ mod RuleParts
 mod Sounds
 mod Accepted
 mod Chosens
-mod Flags

@@ -1,5 +1,5 @@
 -- A structure without faults, seen from a part of the table: from a byte on.
-use Rattle.std.proofs.Common.{◌≡◌, ℕ, zero, suc, ◌+◌, ◌*◌, ◌/◌, ◌-◌, ◌≤◌, Bool, true, false, cond, eqb, leb, ◌&&◌, List, [], ◌∷◌, ◌++◌, drop, length, get_or, None, refl, sym, ap, subst, ◌∙◌, get_or-drop, arith}
+use Rattle.std.proofs.Common.{◌≡◌, ℕ, zero, suc, ◌+◌, ◌*◌, ◌/◌, ◌-◌, Bool, true, false, cond, eqb, leb, ◌&&◌, List, [], ◌∷◌, drop, length, None, refl, ap, subst, ◌∙◌, get_or-drop, arith}
 use Rattle.std.proofs.lemmas.Bool.{le-leb}
 use Rattle.std.proofs.lemmas.List.{length-drop}
 use Rattle.layout.specs.declared.array.Kind.{Kind}
@@ -13,7 +13,7 @@ use Rattle.layout.specs.Coverages.{coverage_faults, coverage_ranges, kind_of}
 use Rattle.layout.specs.Faults.{first_in, unless, extent, format_faults}
 use Rattle.layout.specs.Ranges.{field_size, field_count, entry_size, range_at, ranges_from, third_faults, entry_faults, order_faults, array_faults, counted_faults}
 use Rattle.layout.proofs.Arrays.{extent-none}
-use Rattle.layout.proofs.Firsts.{first-behind, none-parts, unless-none}
+use Rattle.layout.proofs.Firsts.{first-behind, none-parts}
 
 -- a test that holds, told of another byte
 unless-elsewhere : (b : Bool) (n s i n' s' i' : ℕ) → first_in (unless b n s i) ≡ None → first_in (unless b n' s' i') ≡ None

@@ -1,14 +1,14 @@
 -- The arrays of rules, seen from a part of the table, and how many inputs rules without faults have.
-use Rattle.std.proofs.Common.{◌≡◌, ℕ, suc, ◌+◌, ◌*◌, ◌-◌, ◌<◌, ◌≤◌, Bool, true, false, List, ◌++◌, drop, None, refl, sym, ap, subst, ◌∙◌, arith}
+use Rattle.std.proofs.Common.{◌≡◌, ℕ, ◌+◌, ◌≤◌, Bool, true, false, List, drop, None, refl, ap, arith}
 use Rattle.layout.specs.Bytes.{u16_at}
 use Rattle.layout.specs.Faults.{first_in, extent}
 use Rattle.layout.proofs.Firsts.{none-parts}
 use Rattle.gsub.specs.declared.arrays.Array.{Array}
 use Rattle.gsub.specs.declared.arrays.Entries.{Entries}
-use Rattle.gsub.specs.declared.arrays.Entries.TheVariants.{All, ButFirst, Records}
+use Rattle.gsub.specs.declared.arrays.Entries.TheVariants.{All}
 use Rattle.gsub.specs.declared.rules.RuleArrays.{RuleArrays}
 use Rattle.gsub.specs.Follow.{count_faults}
-use Rattle.gsub.specs.Rules.{listed, fields_for, past, array_at, counted_array, plain_rule, chain_rule, rule_of, counts_of}
+use Rattle.gsub.specs.Rules.{listed, fields_for, past, array_at, counted_array, rule_of, counts_of}
 use Rattle.candidates.proofs.Follows.{count-none}
 use Rattle.candidates.proofs.Parts.{u16-part}
 

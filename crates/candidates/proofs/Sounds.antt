@@ -1,21 +1,19 @@
 -- A subtable without faults is sound.
-use Rattle.std.proofs.Common.{◌≡◌, ◌≢◌, ℕ, zero, suc, ◌+◌, ◌*◌, ◌-◌, ◌<◌, ◌≤◌, Bool, true, false, cond, eqb, leb, ◌&&◌, List, [], ◌∷◌, ◌++◌, drop, Some, None, Option, refl, sym, ap, subst, ◌∙◌, arith}
+use Rattle.std.proofs.Common.{◌≡◌, ◌≢◌, ℕ, ◌+◌, ◌*◌, ◌-◌, ◌<◌, ◌≤◌, Bool, true, false, leb, List, ◌++◌, drop, Some, None, refl, sym, ap, subst, ◌∙◌, arith}
 use Rattle.std.proofs.lemmas.Bool.{leb-true}
 use Rattle.layout.specs.Bytes.{u16_at}
 use Rattle.layout.specs.Classes.{class_faults}
 use Rattle.layout.specs.Coverages.{coverage_faults, coverage_ranges}
-use Rattle.layout.specs.Faults.{first_in, unless, extent, counted_extent}
+use Rattle.layout.specs.Faults.{first_in, extent, counted_extent}
 use Rattle.layout.specs.Ranges.{size}
 use Rattle.layout.proofs.Firsts.{none-parts, unless-none}
 use Rattle.gsub.specs.declared.arrays.Array.{Array}
-use Rattle.gsub.specs.declared.arrays.Entries.{Entries}
-use Rattle.gsub.specs.declared.arrays.Entries.TheVariants.{All, ButFirst, Records}
-use Rattle.gsub.specs.declared.rules.RuleArrays.{RuleArrays}
-use Rattle.gsub.specs.Candidates.{entry, index, input_classes, lookahead_classes}
-use Rattle.gsub.specs.Follow.{Faults, behind, each_behind, list_faults}
+use Rattle.gsub.specs.declared.arrays.Entries.TheVariants.{All, ButFirst}
+use Rattle.gsub.specs.Candidates.{entry, index}
+use Rattle.gsub.specs.Follow.{Faults, each_behind, list_faults}
 use Rattle.gsub.specs.Forms.{Form, delta, single, multiple, alternate, ligature, glyph_rules, class_rules, coverage_rule, reverse, form_of}
-use Rattle.gsub.specs.Rules.{listed, past, array_at, rule_of, counts_of, counted_array, coverages, context_coverages, records_of, rule_faults}
-use Rattle.gsub.specs.Subtables.{alternates_faults, class_count, class_sets, coverage_of, enough, form_faults, by_form, indexed, ligature_faults, ligature_set_faults, reverse_arrays, reverse_faults, reverse_rule, rule_set_faults, sequence_faults, sets_faults, subtable_faults}
+use Rattle.gsub.specs.Rules.{past, array_at, rule_of, counts_of, coverages, records_of, rule_faults}
+use Rattle.gsub.specs.Subtables.{class_count, class_sets, coverage_of, enough, form_faults, by_form, indexed, ligature_faults, ligature_set_faults, reverse_arrays, reverse_faults, reverse_rule, rule_set_faults, sequence_faults, sets_faults, subtable_faults}
 use Rattle.candidates.specs.Asked.{AllCover, Classifies, Covers}
 use Rattle.candidates.specs.Sets.{FewInputs, ligature_inputs, rule_inputs}
 use Rattle.candidates.specs.Sound.{Classed, Context, Covered, EachSet, IfThere, Sound}
@@ -57,7 +55,7 @@ module _ (t : List ℕ) (n s : ℕ) where
       let c = indexed-parts p.0 in (
         covered c.0,
         λ g i found. each (entry (drop s t) i)
-        (subst (λ q. first_in (faults q) ≡ None) (set-at i) (each-none t s (s + 6) (u16_at t (s + 4)) faults p.1 i (within (s + 4) c.0 c.1 g i found))),
+            (subst (λ q. first_in (faults q) ≡ None) (set-at i) (each-none t s (s + 6) (u16_at t (s + 4)) faults p.1 i (within (s + 4) c.0 c.1 g i found))),
       )
 
   null-sets : (faults : Faults) (Set : ℕ → Type 0) → ((i : ℕ) → first_in (faults (s + i)) ≡ None → Set i) → first_in (sets_faults true t s faults) ≡ None → Covered (drop s t) × EachSet (drop s t) (IfThere (drop s t) Set)
@@ -66,9 +64,9 @@ module _ (t : List ℕ) (n s : ℕ) where
       let c = indexed-parts p.0 in (
         covered c.0,
         λ g i found there.
-        let o = u16-part t s (6 + 2 * i) ((s + 6) + 2 * i) (omega arith) in
-        each (entry (drop s t) i)
-        (subst (λ q. first_in (faults q) ≡ None) (set-at i) (each-null t s (s + 6) (u16_at t (s + 4)) faults p.1 i (within (s + 4) c.0 c.1 g i found) (subst (λ u. u ≢ 0) (sym o) there))),
+            let o = u16-part t s (6 + 2 * i) ((s + 6) + 2 * i) (omega arith) in
+            each (entry (drop s t) i)
+            (subst (λ q. first_in (faults q) ≡ None) (set-at i) (each-null t s (s + 6) (u16_at t (s + 4)) faults p.1 i (within (s + 4) c.0 c.1 g i found) (subst (λ u. u ≢ 0) (sym o) there))),
       )
 
   -- the rules of a set have few inputs, where each rule without faults has

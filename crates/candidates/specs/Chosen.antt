@@ -1,5 +1,5 @@
 -- The first candidate of a list that matches at position p of a run.
-use Rattle.std.specs.Prelude.{ℕ, suc, ◌+◌, ◌*◌, ◌-◌, Bool, List, drop, take, reverse}
+use Rattle.std.specs.Prelude.{ℕ, suc, Bool, List, drop, take, reverse}
 use Rattle.std.proofs.Math.Option.{Option as Perhaps}
 use Rattle.model.specs.declared.Glyph.{Glyph}
 use Rattle.model.specs.Lookups.{Candidate, Match, choose}

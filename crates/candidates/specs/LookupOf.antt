@@ -1,5 +1,5 @@
 -- A lookup in the code, in the words of the definitions.
-use Rattle.std.specs.Prelude.{ℕ, ◌+◌, ◌==◌}
+use Rattle.std.specs.Prelude.{◌+◌, ◌==◌}
 use Rattle.model.specs.Lookups.{Lookup as ModelLookup}
 use Rattle.gsub.specs.Candidates.{fields}
 use Rattle.gsub.specs.Meaning.{candidates_of}

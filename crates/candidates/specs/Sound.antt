@@ -1,7 +1,6 @@
 -- What is known of a subtable without faults, as far as its candidates rest on it: its coverage, and what entries ask, can be asked; no match has more than 64 input glyphs or puts more than 64.
-use Rattle.std.specs.Prelude.{◌≡◌, ◌≢◌, ℕ, ◌+◌, ◌-◌, ◌*◌, ◌<◌, ◌≤◌, Bool, List, Some, None}
+use Rattle.std.specs.Prelude.{◌≡◌, ◌≢◌, ℕ, ◌+◌, ◌-◌, ◌*◌, ◌<◌, ◌≤◌, Bool, List, Some}
 use Rattle.layout.specs.Bytes.{u16_at}
-use Rattle.gsub.specs.declared.arrays.Array.{Array}
 use Rattle.gsub.specs.declared.arrays.Entries.TheVariants.{All}
 use Rattle.gsub.specs.declared.rules.RuleArrays.{RuleArrays}
 use Rattle.gsub.specs.Rules.{array_at, past, rule_of}

@@ -1,10 +1,9 @@
-use Rattle.std.proofs.Common.{◌+◌, [], sym, ap, ◌∙◌, arith}
+use Rattle.std.proofs.Common.{[], sym, ap, ◌∙◌, arith}
 use Rattle.run.specs.Contents.{glyphs_of}
 use Rattle.matching.specs.Next.{skips}
-use Rattle.candidates.specs.Chosen.{chosen}
 use Rattle.candidates.specs.LookupOf.{lookup_of}
 use Rattle.candidates.specs.Views.{list_of, listed}
-use Rattle.candidates.proofs.Chosens.{all-past, left-all, list-in}
+use Rattle.candidates.proofs.Chosens.{all-past, list-in}
 use Rattle.candidates.proofs.lookup.Lookup.first_match.Goals as goal
 
 pub loop-j-preserved-in_default : goal.loop-j-preserved-in_default

@@ -1,4 +1,4 @@
-use Rattle.std.proofs.Common.{◌≡◌, List, ℕ, sym, subst}
+use Rattle.std.proofs.Common.{List, ℕ, sym, subst}
 use Rattle.gsub.specs.Forms.{form_is}
 use Rattle.candidates.specs.Sound.{Sound}
 use Rattle.candidates.proofs.Accepted.{placed-sound}
