@@ -8,6 +8,7 @@ mod choose;
 mod entries;
 mod forms;
 pub mod found;
+pub mod glyphs;
 mod list;
 mod listed;
 pub mod lookup;
