@@ -1,8 +1,8 @@
 -- Arrays of fields, one by one.
-use Rattle.std.proofs.Common.{◌≡◌, ℕ, zero, suc, ◌+◌, ◌-◌, ◌*◌, ◌<◌, ◌≤◌, Bool, List, [], ◌∷◌, ◌++◌, drop, length, map, get_or, slice_get, Some, None, Option, refl, sym, ap, ◌∙◌, arith}
+use Rattle.std.proofs.Common.{◌≡◌, ℕ, zero, suc, ◌+◌, ◌*◌, ◌<◌, ◌≤◌, Bool, List, [], ◌∷◌, ◌++◌, drop, length, map, get_or, slice_get, Some, None, refl, sym, ap, ◌∙◌, arith}
 use Rattle.std.proofs.lemmas.List.{get_or_past, length-map}
 use Rattle.layout.specs.Bytes.{u16_at}
-use Rattle.model.specs.Lookups.{Candidate, LookupRecord}
+use Rattle.model.specs.Lookups.{Candidate}
 use Rattle.gsub.specs.Candidates.{Test, fields, records_from, rules_of}
 use Rattle.candidates.specs.declared.found.Record.{Record}
 use Rattle.candidates.specs.Actions.{record_of}

@@ -1,5 +1,5 @@
 -- What a match does, and what was found at a position, in the words of the definitions.
-use Rattle.std.specs.Prelude.{ℕ, suc, ◌+◌, ◌*◌, List, map, take, drop, Some, None, Option}
+use Rattle.std.specs.Prelude.{ℕ, suc, List, take, drop, Some, None, Option}
 use Rattle.std.proofs.Math.Option.{Option as Perhaps, none, some}
 use Rattle.model.specs.declared.Glyph.{Glyph}
 use Rattle.model.specs.Lookups.{LookupRecord, Match, put, join, nest}

@@ -3,3 +3,6 @@ pub mod Actions
 pub mod Views
 pub mod Sets
 pub mod Sound
+pub mod Placed
+pub mod LookupOf
+pub mod Chosen

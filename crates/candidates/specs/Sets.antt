@@ -5,8 +5,9 @@ use Rattle.model.specs.Lookups.{Candidate}
 use Rattle.gsub.specs.declared.arrays.Array.{Array}
 use Rattle.gsub.specs.declared.arrays.Entries.TheVariants.{ButFirst}
 use Rattle.gsub.specs.Rules.{rule_of}
-use Rattle.gsub.specs.Candidates.{ligature_at, rule_at}
+use Rattle.gsub.specs.Candidates.{input_classes, ligature_at, lookahead_classes, rule_at}
 use Rattle.candidates.specs.declared.asks.Asks.{Asks}
+use Rattle.candidates.specs.declared.asks.Asks.TheVariants.{Class}
 use Rattle.candidates.specs.declared.rules.Rules.{Rules}
 use Rattle.candidates.specs.declared.rules.Rules.TheVariants.{Ligatures, Context}
 use Rattle.candidates.specs.Asked.{Askable, test_of}
@@ -15,6 +16,10 @@ use Rattle.candidates.specs.Asked.{Askable, test_of}
 abbrev pub rule_made : (part : List ℕ) → Rules → (start : ℕ) → Candidate
 rule_made t Ligatures q = ligature_at t q
 rule_made t (Context chain b i a) q = rule_at t chain (test_of t b) (test_of t i) (test_of t a) q
+
+-- The rules of a set of classes.
+abbrev pub class_kind : (part : List ℕ) → (chain : Bool) → Rules
+class_kind t chain = Context chain (Class (u16_at t 4)) (Class (u16_at t (input_classes chain))) (Class (u16_at t (lookahead_classes chain)))
 
 -- How many further input glyphs it has.
 abbrev pub ligature_inputs : (part : List ℕ) → (start : ℕ) → ℕ

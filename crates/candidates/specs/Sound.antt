@@ -1,7 +1,6 @@
 -- What is known of a subtable without faults, as far as its candidates rest on it: its coverage, and what entries ask, can be asked; no match has more than 64 input glyphs or puts more than 64.
-use Rattle.std.specs.Prelude.{◌≡◌, ◌≢◌, ℕ, ◌+◌, ◌*◌, ◌<◌, ◌≤◌, Bool, List, Some, None}
+use Rattle.std.specs.Prelude.{◌≡◌, ◌≢◌, ℕ, ◌+◌, ◌-◌, ◌*◌, ◌<◌, ◌≤◌, Bool, List, Some}
 use Rattle.layout.specs.Bytes.{u16_at}
-use Rattle.gsub.specs.declared.arrays.Array.{Array}
 use Rattle.gsub.specs.declared.arrays.Entries.TheVariants.{All}
 use Rattle.gsub.specs.declared.rules.RuleArrays.{RuleArrays}
 use Rattle.gsub.specs.Rules.{array_at, past, rule_of}
@@ -31,12 +30,12 @@ module _ (t : List ℕ) where
     pub lookahead : Classifies t (u16_at t (lookahead_classes chain))
     pub sets : (k : ℕ) → k < u16_at t (4 + 2 * class_count chain) → IfThere (FewInputs t (rule_inputs t chain)) (u16_at t (6 + 2 * class_count chain + 2 * k))
 
-  -- Format 3: the input has an entry at least, for the glyph itself.
+  -- The coverages of format 3: that of the glyph itself, and those of further input.
   pub record Context (r : RuleArrays) : Type 0 where
-    pub some : 0 < r.input.count
     pub few : r.input.count ≤ 64
     pub backtrack : AllCover t r.backtrack
-    pub input : AllCover t r.input
+    pub own : Covers t (u16_at t r.input.at)
+    pub input : AllCover t (record { at = r.input.at + 2; count = r.input.count - 1 })
     pub lookahead : AllCover t r.lookahead
 
   abbrev pub Sound : Form → Type 0

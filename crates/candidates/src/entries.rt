@@ -11,6 +11,6 @@ pub(crate) struct EntryArray<'a> {
     pub(crate) part: &'a [u8],
     pub(crate) array: Array,
     pub(crate) asks: Asks,
-    ghost near: { past array < 2 ^ 40 },
+    ghost near: { past array < 2 ^ 41 },
     ghost askable: { Askable part.now asks array },
 }

@@ -1,10 +1,11 @@
 // The candidates that a subtable lists for a glyph, by its form.
 ghost use Rattle.std.specs.Prelude.{◌≡◌, ◌≢◌, ℕ, ◌+◌, ◌*◌, ◌^◌, ◌<◌, ◌≤◌, [], ◌∷◌};
 ghost use Rattle.layout.specs.Bytes.{u16_at};
-ghost use Rattle.gsub.specs.Candidates.{entry, form_candidates, index, input_classes, lookahead_classes, puts, rule_set};
+ghost use Rattle.gsub.specs.Candidates.{class_rules_of, entry, form_candidates, index, input_classes, lookahead_classes, puts, rule_set};
 ghost use Rattle.gsub.specs.Forms.{delta, single, multiple, alternate, ligature, glyph_rules, class_rules, coverage_rule, reverse, form_is, part_is};
-ghost use Rattle.candidates.specs.Sets.{SoundSet, rule_made};
-ghost use Rattle.candidates.specs.Sound.{Covered, Sound};
+ghost use Rattle.gsub.specs.Subtables.{class_count};
+ghost use Rattle.candidates.specs.Sets.{SoundSet, class_kind, rule_made};
+ghost use Rattle.candidates.specs.Sound.{Classed, Covered, Sound};
 ghost use Rattle.candidates.specs.Views.{list_of, listed};
 
 use crate::asks::Asks;
@@ -146,7 +147,44 @@ fn lookahead_classes(chain: bool) -> usize
     if chain { 8 } else { 4 }
 }
 
-// A glyph of a class that has no set is left.
+// Where the count of the sets stands, behind the class definitions.
+fn class_sets(chain: bool) -> usize
+    ensures { result ≡ 4 + 2 * class_count chain }
+{
+    if chain { 10 } else { 6 }
+}
+
+// The rules of a class; none where it has no set.
+fn class_set(part: &[u8], chain: bool, class: u16) -> Option<Listed<'_>>
+    requires { Classed part.now chain }
+    ensures { listed result ≡ class_rules_of part.now chain class }
+{
+    let count_at = class_sets(chain);
+    if class >= u16_at(part, count_at) {
+        return None;
+    }
+    let set = u16_at(part, count_at + 2 + 2 * usize::from(class));
+    rule_set(part, set, class_kind(part, chain))
+}
+
+// What the entries of the rules ask.
+fn class_kind(part: &[u8], chain: bool) -> Rules
+    ensures { result ≡ class_kind part.now chain }
+{
+    Rules::Context {
+        chain,
+        backtrack: Asks::Class {
+            offset: u16_at(part, 4),
+        },
+        input: Asks::Class {
+            offset: u16_at(part, input_classes(chain)),
+        },
+        lookahead: Asks::Class {
+            offset: u16_at(part, lookahead_classes(chain)),
+        },
+    }
+}
+
 fn class_rules(part: &[u8], chain: bool, glyph: u16) -> Option<Listed<'_>>
     requires { Sound part.now (class_rules chain) }
     ensures { (v : ℕ) → listed result ≡ form_candidates part.now (class_rules chain) v glyph }
@@ -155,30 +193,7 @@ fn class_rules(part: &[u8], chain: bool, glyph: u16) -> Option<Listed<'_>>
         return None;
     };
     let input = u16_at(part, input_classes(chain));
-    let class = class_of(part, input, glyph);
-    let count_at = class_sets(chain);
-    if class >= u16_at(part, count_at) {
-        return None;
-    }
-    let rules = Rules::Context {
-        chain,
-        backtrack: Asks::Class {
-            offset: u16_at(part, 4),
-        },
-        input: Asks::Class { offset: input },
-        lookahead: Asks::Class {
-            offset: u16_at(part, lookahead_classes(chain)),
-        },
-    };
-    let set = u16_at(part, count_at + 2 + 2 * usize::from(class));
-    rule_set(part, set, rules)
-}
-
-// Where the count of the sets stands, behind the class definitions.
-fn class_sets(chain: bool) -> usize
-    ensures { result ≡ 4 + 2 * class_count chain }
-{
-    if chain { 10 } else { 6 }
+    class_set(part, chain, class_of(part, input, glyph))
 }
 
 // The glyph is in the first coverage of the input.
@@ -195,21 +210,9 @@ fn coverage_rule(part: &[u8], chain: bool, glyph: u16) -> Option<Listed<'_>>
         count: arrays.input.count.saturating_sub(1),
     };
     Some(Listed::One(Candidate {
-        backtrack: EntryArray {
-            part,
-            array: arrays.backtrack,
-            asks: Asks::Coverage,
-        },
-        input: EntryArray {
-            part,
-            array: input,
-            asks: Asks::Coverage,
-        },
-        lookahead: EntryArray {
-            part,
-            array: arrays.lookahead,
-            asks: Asks::Coverage,
-        },
+        backtrack: EntryArray::covering(part, arrays.backtrack),
+        input: EntryArray::covering(part, input),
+        lookahead: EntryArray::covering(part, arrays.lookahead),
         action: Action::Nest(Records {
             part,
             at: arrays.records.at,
@@ -228,17 +231,9 @@ fn reverse(part: &[u8], glyph: u16) -> Option<Listed<'_>>
     let backtrack = array_at(part, 4, Entries::All);
     let lookahead = array_at(part, past(backtrack), Entries::All);
     Some(Listed::One(Candidate {
-        backtrack: EntryArray {
-            part,
-            array: backtrack,
-            asks: Asks::Coverage,
-        },
+        backtrack: EntryArray::covering(part, backtrack),
         input: EntryArray::none(part),
-        lookahead: EntryArray {
-            part,
-            array: lookahead,
-            asks: Asks::Coverage,
-        },
+        lookahead: EntryArray::covering(part, lookahead),
         action: Action::Put(Glyphs::one(field(part, past(lookahead) + 2, index))),
     }))
 }
@@ -246,7 +241,7 @@ fn reverse(part: &[u8], glyph: u16) -> Option<Listed<'_>>
 // What a subtable lists. A glyph that it does not cover has no candidates.
 pub(crate) fn list(subtable: Subtable<'_>, value: u16, glyph: u16) -> Option<Listed<'_>>
     requires { Sound (part_is subtable) (form_is subtable) }
-    ensures { listed result ≡ form_candidates (part_is subtable) (form_is subtable) value glyph }
+    ensures { listed result ≡ form_candidates (part_is subtable.entry) (form_is subtable.entry) value glyph }
 {
     match subtable {
         Subtable::Delta { part } => delta(part, glyph),

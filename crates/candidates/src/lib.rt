@@ -4,14 +4,20 @@
 mod asks;
 mod attempt;
 mod candidate;
+mod choose;
 mod entries;
-mod entry_tests;
-pub mod found;
 mod forms;
+pub mod found;
+pub mod glyphs;
 mod list;
 mod listed;
+pub mod lookup;
+mod lookups;
 mod made;
+mod meets;
 mod places;
 pub mod records;
 mod rules;
 mod set;
+#[cfg(test)]
+mod tests;

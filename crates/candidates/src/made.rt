@@ -1,9 +1,10 @@
 // Candidates from the bytes of rules.
-ghost use Rattle.std.specs.Prelude.{◌≡◌, ◌+◌, ◌*◌, ◌^◌, ◌<◌, ◌≤◌, [], ◌∷◌};
+ghost use Rattle.std.specs.Prelude.{◌≡◌, ◌+◌, ◌*◌, ◌^◌, ◌<◌, ◌≤◌, [], ◌∷◌, map};
 ghost use Rattle.layout.specs.Bytes.{u16_at};
-ghost use Rattle.gsub.specs.Candidates.{ligature_at, rule_at, puts};
+ghost use Rattle.gsub.specs.Rules.{past};
+ghost use Rattle.gsub.specs.Candidates.{covered, entries_of, ligature_at, rule_at, puts};
 ghost use Rattle.candidates.specs.Actions.{glyphs_in};
-ghost use Rattle.candidates.specs.Asked.{test_of};
+ghost use Rattle.candidates.specs.Asked.{AllCover, test_of};
 ghost use Rattle.candidates.specs.Sets.{RulesAsking, ligature_inputs, rule_inputs, rule_made};
 ghost use Rattle.candidates.specs.Views.{asked, candidate_of};
 
@@ -26,6 +27,20 @@ impl<'a> EntryArray<'a> {
             part,
             array: Array { at: 0, count: 0 },
             asks: Asks::Glyph,
+        }
+    }
+
+    // Those of coverages.
+    pub(crate) fn covering(part: &'a [u8], array: Array) -> EntryArray<'a>
+        requires near { past array < 2 ^ 41 }
+        requires covers { AllCover part.now array }
+        ensures asked { asked result ≡ map (covered part.now) (entries_of part.now array) }
+        ensures count { result.array.count ≡ array.count }
+    {
+        EntryArray {
+            part,
+            array,
+            asks: Asks::Coverage,
         }
     }
 }

@@ -115,15 +115,16 @@ module _ (t : List ℕ) where
   abbrev pub by_glyph : (chain : Bool) → (index : ℕ) → List Candidate
   by_glyph chain i = rule_set t (rule_at t chain same_glyph same_glyph same_glyph) (entry i)
 
-  -- Format 2: the rules of the set of the glyph's input class, if there are so many sets; their entries are classes. The count of the sets stands behind the class definitions.
-  abbrev pub by_class : (chain : Bool) → (glyph : ℕ) → List Candidate
-  by_class chain g =
+  -- Format 2: the rules of the set of an input class, if there are so many sets; their entries are classes. The count of the sets stands behind the class definitions. And those for a glyph.
+  abbrev pub class_rules_of : (chain : Bool) → (class : ℕ) → List Candidate
+  class_rules_of chain k =
       let n : ℕ = class_count chain in
-      let input : ℕ = u16_at t (input_classes chain) in
-      let k : ℕ = class_behind t input 0 g in
       cond (nat_lt k (u16_at t (4 + 2 * n)))
-      (rule_set t (rule_at t chain (same_class t (u16_at t 4)) (same_class t input) (same_class t (u16_at t (lookahead_classes chain)))) (u16_at t (6 + 2 * n + 2 * k)))
+      (rule_set t (rule_at t chain (same_class t (u16_at t 4)) (same_class t (u16_at t (input_classes chain))) (same_class t (u16_at t (lookahead_classes chain)))) (u16_at t (6 + 2 * n + 2 * k)))
       []
+
+  abbrev pub by_class : (chain : Bool) → (glyph : ℕ) → List Candidate
+  by_class chain g = class_rules_of chain (class_behind t (u16_at t (input_classes chain)) 0 g)
 
   -- Format 3: one rule, whose entries are coverages; the glyph is in the first.
   abbrev pub by_coverage : RuleArrays → (glyph : ℕ) → List Candidate

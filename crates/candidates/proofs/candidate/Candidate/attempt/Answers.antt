@@ -1,4 +1,4 @@
-use Rattle.std.proofs.Common.{◌≡◌, ◌≤◌, length, sym, subst, arith}
+use Rattle.std.proofs.Common.{◌≡◌, length, sym, arith}
 use Rattle.candidates.specs.Actions.{action_of}
 use Rattle.candidates.specs.Asked.{test_of}
 use Rattle.candidates.specs.Views.{asked}

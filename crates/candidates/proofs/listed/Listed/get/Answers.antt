@@ -1,4 +1,4 @@
-use Rattle.std.proofs.Common.{◌≡◌, ◌+◌, ◌<◌, ◌∷◌, drop, length, sym, subst, arith}
+use Rattle.std.proofs.Common.{◌+◌, ◌<◌, length, subst, arith}
 use Rattle.layout.specs.Bytes.{u16_at}
 use Rattle.candidates.specs.Views.{list_of, rules_in}
 use Rattle.candidates.specs.Sets.{rule_made}

@@ -1,7 +1,7 @@
 use Rattle.std.proofs.Common.{sym}
 use Rattle.candidates.specs.Asked.{test_of}
 use Rattle.candidates.proofs.Fields.{length-tests}
-use Rattle.candidates.proofs.entry_tests.EntryArrayEntries.len.Goals as goal
+use Rattle.candidates.proofs.meets.EntryArrayEntries.len.Goals as goal
 
 pub returns : goal.returns
 returns c =

@@ -2,7 +2,7 @@ use Rattle.std.proofs.Common.{◌≡◌, ℕ, Bool, false, nat_lt, sym, ap, ◌�
 use Rattle.std.proofs.lemmas.Bool.Decides.{nat_tests}
 use Rattle.candidates.specs.Asked.{test_of}
 use Rattle.candidates.proofs.Fields.{tests-at, tests-past}
-use Rattle.candidates.proofs.entry_tests.EntryArrayEntries.meets.Goals as goal
+use Rattle.candidates.proofs.meets.EntryArrayEntries.meets.Goals as goal
 
 pub returns-then-k-self : goal.returns-then-k-self
 returns-then-k-self c =
