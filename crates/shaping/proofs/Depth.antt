@@ -18,7 +18,7 @@ use Rattle.model.proofs.Seek.{Clusters}
 use Rattle.shaping.specs.declared.stop.Stop.{Stop}
 use Rattle.shaping.specs.declared.attempt.Inner.{Inner}
 use Rattle.shaping.specs.Attempts.{Comes, Inwards, Ready, Took, stop_number}
-use Rattle.shaping.specs.Stub.{lookup_of}
+use Rattle.candidates.specs.LookupOf.{lookup_of}
 use Rattle.shaping.proofs.Attempts.{Quiet, Ran, attempt-is, attempt-past, chosen, comes-stopped, nest-is, quiet-is, ran-all, ran-err, ran-missed, ran-ok, struck-is, told-none}
 use Rattle.shaping.proofs.Passing.{ready-on}
 

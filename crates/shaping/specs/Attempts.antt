@@ -11,8 +11,9 @@ use Rattle.model.specs.Edits.{Frame, edits, frame_at, told}
 use Rattle.model.specs.Laws.{Rising}
 use Rattle.model.specs.Lookups.{LookupRecord, Match}
 use Rattle.model.specs.Shaping.{Attempt, Ending, Inputs, State, accepted, at_index, attempt, barred, hit, miss, stopped, struck}
-use Rattle.shaping.specs.Stub.{action_of, lookup_of}
-use Rattle.shaping.specs.declared.found.Found.{Found}
+use Rattle.candidates.specs.Actions.{action_of}
+use Rattle.candidates.specs.LookupOf.{lookup_of}
+use Rattle.candidates.specs.declared.found.Found.{Found}
 use Rattle.shaping.specs.declared.attempt.Inner.{Inner}
 use Rattle.shaping.specs.declared.stop.Stop.{Stop}
 use Rattle.shaping.specs.declared.stop.Stop.TheVariants.{HitLimit, Room}

@@ -1,4 +1,3 @@
 pub mod Attempts
 pub mod Shape
 pub mod Work
-pub mod Stub

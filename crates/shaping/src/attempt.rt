@@ -5,12 +5,14 @@ ghost use Rattle.model.specs.Edits.{Frame};
 ghost use Rattle.editing.specs.Contents.{open_of, room_of};
 ghost use Rattle.gsub.specs.Meaning.{gsub_means};
 ghost use Rattle.shaping.specs.Attempts.{Comes, Inwards, Ready, inputs_of};
-ghost use Rattle.shaping.specs.Stub.{lookup_of, records_of};
+ghost use Rattle.candidates.specs.Actions.{records_of};
+ghost use Rattle.candidates.specs.LookupOf.{lookup_of};
 ghost use Rattle.shaping.specs.Work.{Lent, state_of};
 
 use crate::shape::Inputs;
 use crate::stop::Stop;
-use crate::found::{Action, Lookup, Records};
+use candidates::found::{Action, Records};
+use candidates::lookup::Lookup;
 use crate::work::Work;
 use font::source::FontSource;
 

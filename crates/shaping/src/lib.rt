@@ -2,10 +2,8 @@
 #![tactic(auto)]
 
 mod attempt;
-pub mod found;
 pub mod plan;
 pub mod refusal;
 pub mod shape;
 mod stop;
-pub mod stub;
 mod work;

@@ -3,13 +3,13 @@ ghost use Rattle.model.specs.Edits.{changed, edits, told};
 ghost use Rattle.model.specs.Laws.{Rising};
 ghost use Rattle.editing.specs.Contents.{glyphs_of, lender_of, open_of, room_of};
 ghost use Rattle.matching.specs.Seek.{Outward, glyph_at, mets_at};
-ghost use Rattle.shaping.specs.Stub.{action_of};
+ghost use Rattle.candidates.specs.Actions.{action_of};
 ghost use Rattle.shaping.specs.Attempts.{Ready, Took, inputs_of, match_at};
 ghost use Rattle.shaping.specs.Work.{Lent, state_of};
 
 use crate::shape::Inputs;
 use crate::stop::Stop;
-use crate::found::{Action, Found};
+use candidates::found::{Action, Found};
 use editing::editing::Editing;
 use font::source::FontSource;
 use ties::tie;

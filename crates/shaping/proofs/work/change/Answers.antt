@@ -3,7 +3,7 @@ use Rattle.model.specs.Edits.{changed, edits, told}
 use Rattle.model.specs.Lookups.{put}
 use Rattle.editing.specs.Contents.{glyphs_of, open_of}
 use Rattle.matching.specs.Seek.{glyph_at, mets_at}
-use Rattle.shaping.specs.Stub.{action_of}
+use Rattle.candidates.specs.Actions.{action_of}
 use Rattle.shaping.proofs.Attempts.{told-none}
 use Rattle.shaping.proofs.work.change.Goals as goal
 

@@ -4,7 +4,7 @@ use Rattle.model.specs.Shaping.{attempt}
 use Rattle.model.proofs.Chain.{inner}
 use Rattle.editing.specs.Contents.{open_of, room_of}
 use Rattle.shaping.specs.Attempts.{Ready, inputs_of}
-use Rattle.shaping.specs.Stub.{records_of}
+use Rattle.candidates.specs.Actions.{records_of}
 use Rattle.shaping.specs.Work.{Lent, state_of}
 use Rattle.shaping.proofs.Attempts.{Ran}
 use Rattle.shaping.proofs.shape.Inputs.+attempt.Given as goal

@@ -2,9 +2,9 @@ use Rattle.std.proofs.Common.{◌≡◌, ◌∷◌, List, map, slice_get, option
 use Rattle.std.proofs.lemmas.Option.{slice_get-map}
 use Rattle.model.specs.Edits.{Frame}
 use Rattle.model.specs.Lookups.{LookupRecord}
-use Rattle.shaping.specs.declared.found.Record.{Record}
+use Rattle.candidates.specs.declared.found.Record.{Record}
 use Rattle.shaping.specs.Attempts.{Inwards, inputs_of}
-use Rattle.shaping.specs.Stub.{record_of}
+use Rattle.candidates.specs.Actions.{record_of}
 use Rattle.shaping.proofs.Attempts.{idle-backward, idle-past, runs-forward}
 use Rattle.shaping.proofs.shape.Inputs.inner.Goals as goal
 

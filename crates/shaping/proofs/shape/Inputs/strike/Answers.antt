@@ -7,7 +7,7 @@ use Rattle.model.specs.Shaping.{State}
 use Rattle.editing.specs.Contents.{glyphs_of, open_of, room_of}
 use Rattle.matching.specs.Seek.{glyph_at, mets_at}
 use Rattle.shaping.specs.Attempts.{match_at}
-use Rattle.shaping.specs.Stub.{action_of}
+use Rattle.candidates.specs.Actions.{action_of}
 use Rattle.shaping.specs.Work.{state_of}
 use Rattle.shaping.proofs.shape.Inputs.strike.Goals as goal
 
