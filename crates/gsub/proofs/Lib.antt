@@ -1,3 +1,3 @@
 mod Examples
-mod Placed
+pub mod Placed
 mod Remembers

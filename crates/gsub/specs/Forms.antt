@@ -1,5 +1,5 @@
 -- The forms of subtables: one for each pair of a type and a format. Type 7 only moves a subtable of another type.
-use Rattle.std.specs.Prelude.{ℕ, Bool, true, false, cond, ◌&&◌, Some, None, Option, ◌==◌}
+use Rattle.std.specs.Prelude.{ℕ, Bool, true, false, cond, ◌&&◌, List, Some, None, Option, ◌==◌}
 use Rattle.gsub.specs.declared.subtable.Subtable.{Subtable}
 use Rattle.gsub.specs.declared.subtable.Subtable.TheVariants.{Delta, Single, Multiple, Alternate, Ligature, GlyphRules, ClassRules, CoverageRule, Reverse}
 
@@ -46,3 +46,15 @@ form_is (Reverse part) = reverse
 abbrev pub formed : Option Subtable → Option Form
 formed None = None
 formed (Some s) = Some (form_is s)
+
+-- Its part of the table.
+abbrev pub part_is : Subtable → List ℕ
+part_is (Delta part) = part.now
+part_is (Single part) = part.now
+part_is (Multiple part) = part.now
+part_is (Alternate part) = part.now
+part_is (Ligature part) = part.now
+part_is (GlyphRules chain part) = part.now
+part_is (ClassRules chain part) = part.now
+part_is (CoverageRule chain part) = part.now
+part_is (Reverse part) = part.now

@@ -11,7 +11,7 @@ use layout::structure::Structure;
 
 // What an array has by its count.
 #[derive(Clone, Copy)]
-pub(crate) enum Entries {
+pub enum Entries {
     // A field for each entry.
     All,
     // The same, but the first entry is not listed.
@@ -22,13 +22,13 @@ pub(crate) enum Entries {
 
 // Where an array stands, and how many entries it lists: a place and not a slice, since faults are told by their bytes.
 #[derive(Clone, Copy)]
-pub(crate) struct Array {
-    pub(crate) at: usize,
-    pub(crate) count: usize,
+pub struct Array {
+    pub at: usize,
+    pub count: usize,
 }
 
 impl Entries {
-    pub(crate) fn listed(self, count: u16) -> usize
+    pub fn listed(self, count: u16) -> usize
         ensures listed { result ≡ listed self count }
         ensures bound { result ≤ 65535 }
     {

@@ -1,15 +1,15 @@
 // GSUB: the check of a table, and what it means.
 #![tactic(auto)]
 
-mod arrays;
+pub mod arrays;
 pub mod check;
 mod follow;
 mod forms;
 mod lookups;
 pub mod meaning;
-mod rules;
+pub mod rules;
 mod seen;
 mod structures;
-mod subtable;
+pub mod subtable;
 pub mod table;
 mod walk;

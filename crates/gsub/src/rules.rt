@@ -12,11 +12,11 @@ use layout::fault::{Rule, StructureFault};
 
 // Where the arrays of a context rule stand.
 #[derive(Clone, Copy)]
-pub(crate) struct RuleArrays {
-    pub(crate) backtrack: Array,
-    pub(crate) input: Array,
-    pub(crate) lookahead: Array,
-    pub(crate) records: Array,
+pub struct RuleArrays {
+    pub backtrack: Array,
+    pub input: Array,
+    pub lookahead: Array,
+    pub records: Array,
 }
 
 // The rule of a structure, whose arrays were found to lie in the table.

@@ -1,9 +1,9 @@
-ghost use Rattle.std.specs.Prelude.{◌≡◌};
-ghost use Rattle.gsub.specs.Forms.{form_of, formed};
+ghost use Rattle.std.specs.Prelude.{◌≡◌, IfSome};
+ghost use Rattle.gsub.specs.Forms.{form_of, formed, part_is};
 
-// A subtable by its type and format, with its own part of the table, from its first byte on. Each case has its part, for the code that is to shape; the check needs no more than the form.
+// A subtable by its type and format, with its own part of the table, from its first byte on. Each case has its part, for what reads candidates; the check needs no more than the form.
 #[derive(Clone, Copy)]
-pub(crate) enum Subtable<'a> {
+pub enum Subtable<'a> {
     Delta { part: &'a [u8] },
     Single { part: &'a [u8] },
     Multiple { part: &'a [u8] },
@@ -17,8 +17,9 @@ pub(crate) enum Subtable<'a> {
 
 impl<'a> Subtable<'a> {
     // The one decision over type and format, for the check and for shaping. None where a type has no such format.
-    pub(crate) fn of(lookup_type: u16, format: u16, part: &'a [u8]) -> Option<Subtable<'a>>
-        ensures { formed result ≡ form_of lookup_type format }
+    pub fn of(lookup_type: u16, format: u16, part: &'a [u8]) -> Option<Subtable<'a>>
+        ensures form { formed result ≡ form_of lookup_type format }
+        ensures part { IfSome result (λ subtable. part_is subtable ≡ part.now) }
     {
         match (lookup_type, format) {
             (1, 1) => Some(Subtable::Delta { part }),

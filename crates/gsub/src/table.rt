@@ -5,6 +5,6 @@ ghost use Rattle.gsub.specs.Tables.{gsub_faults};
 // A GSUB table that was checked: it has no fault.
 #[derive(Clone, Copy)]
 pub struct Gsub<'a> {
-    pub(crate) table: &'a [u8],
+    pub table: &'a [u8],
     ghost accepted: { first_in (gsub_faults table.now) ≡ None },
 }

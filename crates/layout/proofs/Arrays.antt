@@ -53,7 +53,7 @@ module _ (t : List ℕ) (s : ℕ) where
   pub class-ranges-none : first_in (class_faults t s) ≡ None → eqb (u16_at t s) 1 ≡ false → first_in (range_faults t s) ≡ None
   class-ranges-none e f = subst (λ b. first_in (cond b (list_faults t s) (range_faults t s)) ≡ None) f (none-parts (format_faults t s 2) _ e).1
 
-start_is : (kind : Kind) (s i low before : ℕ) (r : Range) (rs : List Range) → first_in (order_faults StartIndex kind s i low before (r ∷ rs)) ≡ None → r.value ≡ before
+pub start_is : (kind : Kind) (s i low before : ℕ) (r : Range) (rs : List Range) → first_in (order_faults StartIndex kind s i low before (r ∷ rs)) ≡ None → r.value ≡ before
 start_is kind s i low before r rs e =
     let p = none-parts (entry_faults StartIndex kind s i low before r) (order_faults StartIndex kind s (i + entry_size kind) (r.last + 1) (before + (r.last - r.first + 1)) rs) e in
     let v = unless-none (eqb r.value before) 3 s (i + 2 * field_size kind) (entry-none StartIndex kind s i low before r p.0).2 in

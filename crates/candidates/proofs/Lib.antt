@@ -1,0 +1,7 @@
+mod Fields
+mod Parts
+mod Follows
+mod RuleParts
+mod Sounds
+mod Accepted
+mod Chosens

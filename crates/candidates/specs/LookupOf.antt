@@ -1,0 +1,14 @@
+-- A lookup in the code, in the words of the definitions.
+use Rattle.std.specs.Prelude.{◌+◌, ◌==◌}
+use Rattle.model.specs.Lookups.{Lookup as ModelLookup}
+use Rattle.gsub.specs.Candidates.{fields}
+use Rattle.gsub.specs.Meaning.{candidates_of}
+use Rattle.candidates.specs.declared.lookup.Lookup.{Lookup}
+
+abbrev pub lookup_of : Lookup → ModelLookup
+lookup_of k = record {
+  flag = k.flag;
+  mark_set = k.mark_set;
+  backward = (k.lookup_type == 8);
+  candidates = λ v g. candidates_of k.gsub.table.now k.start v g (fields k.gsub.table.now (k.start + 6) k.subtables);
+}
