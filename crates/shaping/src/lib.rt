@@ -2,6 +2,7 @@
 #![tactic(auto)]
 
 mod attempt;
+mod pass;
 pub mod plan;
 pub mod refusal;
 pub mod shape;
