@@ -2,3 +2,4 @@ pub mod Attempts
 pub mod Passing
 pub mod Laying
 pub mod Depth
+pub mod Works

@@ -1,12 +1,13 @@
 -- Passes and plans, a step at a time.
 use Rattle.std.proofs.Common.{◌≡◌, ℕ, zero, suc, ◌+◌, ◌-◌, ◌*◌, ◌<◌, ◌≤◌, Bool, true, false, cond, ltb, List, [], ◌∷◌, map, length, drop, Some, None, Option, Ok, Err, Result, refl, sym, ap, ◌∙◌, subst, inl, inr, arith}
+use Rattle.std.proofs.Math.Nat.{mul-le-mul_right, suc-mul}
 use Rattle.std.proofs.lemmas.List.{drop_all}
 use Rattle.model.specs.declared.Entry.{Entry}
 use Rattle.model.specs.Edits.{Frame, told}
 use Rattle.model.specs.Shaping.{Attempt, Ending, Inputs, Pass, Runs, State, Sweeps, accepted, answer, attempt, back_pass, barred, ends, hit, hits, miss, misses, planned, stopped, stops}
 use Rattle.model.proofs.Chain.{Strike}
 use Rattle.model.proofs.Keeps.{strike-in}
-use Rattle.model.proofs.Plans.{AttemptKeeps, EndKeeps, attempt-keeps, sweeps-keep}
+use Rattle.model.proofs.Plans.{AttemptKeeps, attempt-keeps, strike-room, sweeps-keep}
 use Rattle.model.proofs.Rises.{strike-rising}
 use Rattle.model.proofs.Total.{Climbs, attempt-climbs}
 use Rattle.shaping.specs.declared.stop.Stop.{Stop}
@@ -134,3 +135,41 @@ module _ (inputs : Inputs) (plan : List Entry) (s₀ : State) where
 
       pub plan-stops : (n : ℕ) → Sweeps inputs x s (stopped n) → Runs inputs plan s₀ (stopped n)
       plan-stops n p = so_far (stopped n) (subst (λ xs. Runs inputs xs s (stopped n)) (sym is) (inr (n, p, refl)))
+
+-- More hits within the limit make up for any number of glyphs.
+pub fewer-left : (limit room h h' b b' : ℕ) → h < h' → h' ≤ limit → b' ≤ room → (limit - h') * (room + 1) + b' < (limit - h) * (room + 1) + b
+fewer-left limit room h h' b b' more within few =
+    let m = limit - suc h in
+    let split : limit - h ≡ suc m = omega arith in
+    let under : (limit - h') * (room + 1) ≤ m * (room + 1) = mul-le-mul_right (room + 1) (let le : limit - h' ≤ m = omega arith in le) in
+    let whole : (limit - h) * (room + 1) ≡ m * (room + 1) + (room + 1) = ap (λ n. n * (room + 1)) split ∙ suc-mul m (room + 1) in
+    omega (arith, under, whole)
+
+-- the room holds what an attempt leaves
+pub room-kept : (inputs : Inputs) (d alt l p : ℕ) (s : State) (fs : List Frame) (w : Option ℕ) (s' : State) (fs' : List Frame) → Comes (attempt inputs d alt l p s) s fs (Ok w) s' fs' → length s.run ≤ inputs.room → length s'.run ≤ inputs.room
+room-kept inputs d alt l p s fs w s' fs' c h = by (attempt inputs d alt l p s) c (attempt-keeps inputs Fits each-fits d alt l p s h)
+  where
+    Fits : State → Type 0
+    Fits u = length u.run ≤ inputs.room
+
+    each-fits : (q : ℕ) (a b : State) → Strike inputs q a b → Fits a → Fits b
+    each-fits q a b k r = strike-room inputs q a b k
+
+    by : (o : Attempt) → Comes o s fs (Ok w) s' fs' → AttemptKeeps inputs Fits each-fits o → length s'.run ≤ inputs.room
+    by miss (r, t, u) k = subst (λ q. length q.run ≤ inputs.room) (sym t) h
+    by (barred n) (stop, r, t) k = absurd cc
+    by (hit t x es) (r, v, u) k = subst (λ q. length q.run ≤ inputs.room) (sym v) k
+
+-- A measure of a pass: the hits that are left, then the glyphs that are left.
+abbrev pub left : (limit room : ℕ) → State → (i : ℕ) → ℕ
+left limit room s i = (limit - s.hits) * (room + 1) + (length s.run - i)
+
+pub left-missed : (limit room room' i : ℕ) (s s' : State) → s' ≡ s → room' ≡ room → i < length s.run → left limit room' s' (i + 1) < left limit room s i
+left-missed limit room room' i s s' e r h =
+    let less : left limit room s (i + 1) < left limit room s i = omega (arith, h) in
+    subst (λ q. left limit q s' (i + 1) < left limit room s i) (sym r) (subst (λ q. left limit room q (i + 1) < left limit room s i) (sym e) less)
+
+pub left-hit : (limit room room' i e : ℕ) (s s' : State) → room' ≡ room → s.hits < s'.hits → s'.hits ≤ limit → length s'.run ≤ room → left limit room' s' e < left limit room s i
+left-hit limit room room' i e s s' r more within fits =
+    let few : length s'.run - e ≤ room = omega (arith, fits) in
+    subst (λ q. left limit q s' e < left limit room s i) (sym r) (fewer-left limit room s.hits s'.hits (length s.run - i) (length s'.run - e) more within few)

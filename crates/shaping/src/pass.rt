@@ -1,4 +1,4 @@
-ghost use Rattle.std.specs.Prelude.{◌≡◌, ◌<◌, [], length, IfOk};
+ghost use Rattle.std.specs.Prelude.{◌≡◌, ℕ, length, IfOk};
 ghost use Rattle.candidates.specs.LookupOf.{lookup_of};
 ghost use Rattle.editing.specs.Contents.{glyphs_of, open_of, room_of};
 ghost use Rattle.gsub.specs.Meaning.{gsub_means};
@@ -18,6 +18,7 @@ impl<S: FontSource> Inputs<'_, S> {
     // From the first glyph on: after a hit at the match's end, else at the next glyph.
     fn forward(&self, work: &mut Work<'_>, alternate: u16, lookup: &Lookup<'_>) -> Result<(), Stop>
         requires idle { Idle work.old }
+        requires named { (n : ℕ) × (lookup_of lookup.now ≡ gsub_means self.now.table.table.now n) }
         ensures pass { (x : Entry) → x.alternate ≡ alternate → lookup_of lookup.now ≡ gsub_means self.now.table.table.now x.lookup → Pass (inputs_of (S.FontSource.means self.now.source.now) self.now.table.table.now self.now.plan.now self.now.limit (room_of work.old.editing)) x 0 (state_of work.old) (ending_of result (state_of work.new)) }
         ensures idle { IfOk result (λ _. Idle work.new) }
         ensures lent { Lent work.new work.old }
@@ -35,6 +36,7 @@ impl<S: FontSource> Inputs<'_, S> {
     // From the last glyph to the first.
     fn backward(&self, work: &mut Work<'_>, alternate: u16, lookup: &Lookup<'_>) -> Result<(), Stop>
         requires idle { Idle work.old }
+        requires named { (n : ℕ) × (lookup_of lookup.now ≡ gsub_means self.now.table.table.now n) }
         ensures pass { (x : Entry) → x.alternate ≡ alternate → lookup_of lookup.now ≡ gsub_means self.now.table.table.now x.lookup → ending_of result (state_of work.new) ≡ back_pass (inputs_of (S.FontSource.means self.now.source.now) self.now.table.table.now self.now.plan.now self.now.limit (room_of work.old.editing)) x (length (glyphs_of work.old.editing)) (state_of work.old) }
         ensures idle { IfOk result (λ _. Idle work.new) }
         ensures lent { Lent work.new work.old }

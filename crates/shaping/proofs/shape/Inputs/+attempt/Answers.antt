@@ -16,13 +16,11 @@ use Rattle.ties.specs.Ties.{tied_in}
 use Rattle.shaping.specs.Attempts.{Comes, Inwards, Ready, inputs_of, match_at}
 use Rattle.shaping.specs.declared.work.Work.{Work}
 use Rattle.shaping.specs.Work.{Lent, state_of}
+use Rattle.shaping.proofs.Works.{lent-on}
 use Rattle.shaping.proofs.Attempts.{Quiet, Ran, ran-first}
 use Rattle.shaping.proofs.Depth.{as-deep, chose-nested, chose-nested-stopped, chose-none, chose-quiet, chose-stopped, found-inside, hi-below, record-idle, record-ran, record-ready, record-stopped, took-ready}
 use Rattle.shaping.proofs.shape.Inputs.+attempt.Goals as goal
 use Rattle.shaping.proofs.shape.Inputs.+attempt.Goals.{in-Some-inner+in_ok-attempt, in_default-inner, in-Nest+else-loop-i-test, in_default-action}
-
-lent-on : (u v w : Work) → Lent u v → Lent v w → Lent u w
-lent-on u v w a b = (a.0 ∙ b.0, a.1 ∙ b.1, a.2 ∙ b.2, a.3 ∙ b.3)
 
 -- an action in the code that is not to run records
 quiet-by : (x : Action) → ((rs : Records) → x ≡ Nest rs → ⊥) → Quiet (action_of x)

@@ -8,12 +8,12 @@ use Rattle.shaping.specs.Attempts.{inputs_of}
 use Rattle.shaping.specs.Work.{Idle, Lent, state_of}
 use Rattle.shaping.proofs.shape.Inputs.backward.Given as goal
 
-abbrev pub decreases-loop : goal.decreases-loop
-decreases-loop g l = l.i
+abbrev pub decreases-loop-i : goal.decreases-loop-i
+decreases-loop-i g l = l.i
 
 -- what comes of the glyphs before i comes of the whole
-abbrev pub invariant-loop : goal.invariant-loop
-invariant-loop g l =
+abbrev pub invariant-loop-i : goal.invariant-loop-i
+invariant-loop-i g l =
     let inputs = inputs_of (g.S.FontSource.means l.fn.self.source.now) l.fn.self.table.table.now l.fn.self.plan.now l.fn.self.limit (room_of l.fn.work.editing) in
     record {
       on : (x : Entry) → x.alternate ≡ l.alternate → lookup_of l.lookup ≡ gsub_means l.fn.self.table.table.now x.lookup
