@@ -3,3 +3,4 @@ pub mod Passing
 pub mod Laying
 pub mod Depth
 pub mod Works
+pub mod Firsts

@@ -1,3 +1,4 @@
 pub mod Attempts
 pub mod Shape
 pub mod Work
+pub mod First

@@ -25,7 +25,7 @@ pub(crate) struct Inner<'a> {
 
 impl<'a, S: FontSource> Inputs<'a, S> {
     // What record i of the innermost open match runs. Nothing where its index is past the list of positions, or where it names a lookup that goes backward.
-    fn inner(&self, work: &Work<'_>, records: &Records<'_>, i: usize) -> Option<Inner<'a>>
+    fn inner(&self, work: &Work<'_, '_>, records: &Records<'_>, i: usize) -> Option<Inner<'a>>
         ensures { (f : Frame) (fs : List Frame) (r : LookupRecord) (room : ℕ) → open_of work.now.editing ≡ f ∷ fs → slice_get (records_of records.now) i ≡ Some r → Inwards (inputs_of (S.FontSource.means self.now.source.now) self.now.table.table.now self.now.plan.now self.now.limit room) r f result }
     {
         let record = records.get(i)?;
@@ -40,7 +40,7 @@ impl<'a, S: FontSource> Inputs<'a, S> {
     // An attempt of a lookup at a position, with so many levels left. Answers the match's end, if there is a match.
     pub(crate) fn attempt(
         &self,
-        work: &mut Work<'_>,
+        work: &mut Work<'_, '_>,
         depth: usize,
         alternate: u16,
         lookup: &Lookup<'_>,

@@ -16,9 +16,9 @@ use ties::tie;
 
 // What shaping changes: the run with its open matches, which characters are tied, and the hits.
 #[derive(Drop)]
-pub(crate) struct Work<'a> {
+pub(crate) struct Work<'a, 'b> {
     pub(crate) editing: Editing<'a>,
-    pub(crate) ties: &'a mut [u8],
+    pub(crate) ties: &'b mut [u8],
     pub(crate) hits: u32,
 }
 
@@ -48,7 +48,7 @@ impl<S: FontSource> Inputs<'_, S> {
     // A match takes effect: a hit, its ties and its own change. It is open then, and closed by the caller.
     pub(crate) fn strike(
         &self,
-        work: &mut Work<'_>,
+        work: &mut Work<'_, '_>,
         p: usize,
         found: &Found<'_>,
         met: &[usize],
