@@ -1,29 +1,22 @@
 -- An attempt by its parts: the candidate chosen, its match, the records that it runs.
-use Rattle.std.proofs.Common.{◌≡◌, ℕ, zero, suc, ◌+◌, ◌<◌, ◌≤◌, Bool, true, false, cond, ltb, leb, List, [], ◌∷◌, ◌++◌, map, length, take, drop, reverse, slice_get, Some, None, Option, Ok, Err, Result, refl, sym, ap, ◌∙◌, subst, arith}
+use Rattle.std.proofs.Common.{◌≡◌, ℕ, suc, ◌+◌, ◌≤◌, Bool, true, false, cond, leb, List, [], ◌∷◌, ◌++◌, map, length, take, drop, reverse, slice_get, Some, None, Option, Ok, Err, refl, sym, ap, ◌∙◌, subst}
 use Rattle.std.proofs.Math.Option.{Option as Perhaps, none, some}
 use Rattle.std.proofs.Math.ListN.{get_elem?}
-use Rattle.std.proofs.lemmas.List.{map-id, drop_more, drop_all}
+use Rattle.std.proofs.lemmas.List.{drop_all}
 use Rattle.model.specs.declared.Glyph.{Glyph}
 use Rattle.model.specs.Edits.{Edit, Frame, edits, frame_at, told}
 use Rattle.model.specs.Lookups.{Action, LookupRecord, Lookup, Match, choose, join, nest, passes_over, put}
 use Rattle.model.specs.Shaping.{Attempt, Inputs, State, Try, answer, applied, at_index, attempt, barred, finish, hit, miss, records, struck, try_on}
 use Rattle.model.proofs.Chain.{inner}
+use Rattle.editing.proofs.Moves.{told-append_all}
+use Rattle.editing.proofs.Positions.{index-none, index-some}
 use Rattle.shaping.specs.declared.stop.Stop.{Stop}
 use Rattle.shaping.specs.declared.stop.Stop.TheVariants.{HitLimit, Room}
 use Rattle.shaping.specs.Attempts.{Comes, Took, stop_number}
 
--- told of some edits and then of others
-pub told-append : (es es' : List Edit) (f : Frame) → told (es ++ es') f ≡ told es' (told es f)
-told-append [] es' f = refl
-told-append (e ∷ es) es' f = told-append es es' _
-
 pub told-none : (fs : List Frame) → map (told []) fs ≡ fs
 told-none [] = refl
 told-none (f ∷ fs) = ap (λ xs. f ∷ xs) (told-none fs)
-
-pub all-told-append : (es es' : List Edit) (fs : List Frame) → map (told (es ++ es')) fs ≡ map (told es') (map (told es) fs)
-all-told-append es es' [] = refl
-all-told-append es es' (f ∷ fs) = ap (λ x. x ∷ map (told (es ++ es')) fs) (told-append es es' f) ∙ ap (λ xs. told es' (told es f) ∷ xs) (all-told-append es es' fs)
 
 -- the candidate that an attempt takes
 abbrev pub chosen : Inputs → Lookup → (alternate p : ℕ) → State → Glyph → (after : List Glyph) → Perhaps Match
@@ -99,7 +92,7 @@ module _ (try : Try) (rs : List LookupRecord) (f₀ : Frame) (s₀ : State) (fs�
 
     pub ran-hit : (s' : State) (e : ℕ) (es : List Edit) (fs' : List Frame) → at_index try r.lookup (get_elem? ran.0.positions r.index) s ≡ hit s' e es → fs' ≡ map (told es) fs → Ran (i + 1) s' fs'
     ran-hit s' e es fs' q h =
-        (told es ran.0, ran.1 ++ es, by ∙ ap went q, h ∙ ap (map (told es)) ran.3 ∙ ap (λ xs. told es ran.0 ∷ xs) (sym (all-told-append ran.1 es fs₀)))
+        (told es ran.0, ran.1 ++ es, by ∙ ap went q, h ∙ ap (map (told es)) ran.3 ∙ ap (λ xs. told es ran.0 ∷ xs) (sym (told-append_all ran.1 es fs₀)))
 
     -- the same by what the code answers
     pub ran-ok : (o : Attempt) (s' : State) (fs' : List Frame) (w : Option ℕ) → at_index try r.lookup (get_elem? ran.0.positions r.index) s ≡ o → Comes o s fs (Ok w) s' fs' → Ran (i + 1) s' fs'
@@ -115,24 +108,13 @@ module _ (try : Try) (rs : List LookupRecord) (f₀ : Frame) (s₀ : State) (fs�
   pub ran-all : (i : ℕ) (s : State) (fs : List Frame) → Ran i s fs → length rs ≤ i → (f : Frame) × (es : List Edit) × (records try rs f₀ [] s₀ ≡ hit s f.«end» es) × (fs ≡ f ∷ map (told es) fs₀)
   ran-all i s fs ran h = (ran.0, ran.1, ran.2 ∙ ap (λ xs. records try xs ran.0 ran.1 s) (drop_all i rs h), ran.3)
 
--- an element of a list, by the library's search and by the definitions'
-pub elem-none : {A : Type 0} (xs : List A) (i : ℕ) → None ≡ slice_get xs i → get_elem? xs i ≡ none
-elem-none [] i e = refl
-elem-none (x ∷ xs) zero e = absurd cc
-elem-none (x ∷ xs) (suc i) e = elem-none xs i e
-
-pub elem-some : {A : Type 0} (xs : List A) (i : ℕ) (x : A) → Some x ≡ slice_get xs i → get_elem? xs i ≡ some x
-elem-some [] i x e = absurd cc
-elem-some (x ∷ xs) zero y e = let same : x ≡ y = cc in ap some same
-elem-some (x ∷ xs) (suc i) y e = elem-some xs i y e
-
 module _ (inputs : Inputs) (f : Frame) (l i depth alternate : ℕ) (s : State) where
   -- an index past the list, a lookup that goes backward, and any other
   pub idle-past : None ≡ slice_get f.positions i → at_index (inner inputs (attempt inputs depth alternate)) l (get_elem? f.positions i) s ≡ miss
-  idle-past e = ap (λ o. at_index (inner inputs (attempt inputs depth alternate)) l o s) (elem-none f.positions i e)
+  idle-past e = ap (λ o. at_index (inner inputs (attempt inputs depth alternate)) l o s) (index-none f.positions i (sym e))
 
   runs-at : (q : ℕ) → Some q ≡ slice_get f.positions i → at_index (inner inputs (attempt inputs depth alternate)) l (get_elem? f.positions i) s ≡ cond (inputs.table l).backward miss (attempt inputs depth alternate l q s)
-  runs-at q e = ap (λ o. at_index (inner inputs (attempt inputs depth alternate)) l o s) (elem-some f.positions i q e)
+  runs-at q e = ap (λ o. at_index (inner inputs (attempt inputs depth alternate)) l o s) (index-some f.positions i q (sym e))
 
   pub idle-backward : (q : ℕ) → Some q ≡ slice_get f.positions i → (inputs.table l).backward ≡ true → at_index (inner inputs (attempt inputs depth alternate)) l (get_elem? f.positions i) s ≡ miss
   idle-backward q e b = runs-at q e ∙ ap (λ t. cond t miss (attempt inputs depth alternate l q s)) b

@@ -1,5 +1,5 @@
 -- What an attempt comes to, by what the code chose and did.
-use Rattle.std.proofs.Common.{◌≡◌, ℕ, zero, suc, ◌+◌, ◌-◌, ◌<◌, ◌≤◌, Bool, true, false, cond, ◌⊎◌, List, [], ◌∷◌, map, length, take, drop, reverse, get_or, slice_get, Some, None, Option, Ok, Err, Result, refl, sym, ap, ◌∙◌, subst, inl, inr, arith}
+use Rattle.std.proofs.Common.{◌≡◌, ℕ, zero, suc, ◌+◌, ◌-◌, ◌<◌, ◌≤◌, Bool, true, false, cond, ◌⊎◌, List, [], ◌∷◌, map, length, take, drop, reverse, get_or, slice_get, Some, None, Option, Ok, Err, refl, sym, ap, ◌∙◌, subst, inl, inr, arith}
 use Rattle.std.proofs.Math.Option.{Option as Perhaps, none, some}
 use Rattle.std.proofs.ByRecursion.{All-drop, All-take}
 use Rattle.std.proofs.lemmas.Bool.{cases_lt, leb-true, ltb-true}
@@ -7,7 +7,7 @@ use Rattle.std.proofs.lemmas.Option.{slice_get-get_or}
 use Rattle.std.proofs.lemmas.List.{drop_all, drop_more, length-map}
 use Rattle.matching.specs.Seek.{glyph_at}
 use Rattle.model.specs.declared.Glyph.{Glyph}
-use Rattle.model.specs.Edits.{Edit, Frame, edits, frame_at, told}
+use Rattle.model.specs.Edits.{Frame, edits, frame_at, told}
 use Rattle.model.specs.Lookups.{Lookup, LookupRecord, Match, choose, nest, passes_over}
 use Rattle.model.specs.Shaping.{Attempt, Inputs, State, applied, attempt, barred, finish, hit, miss, records, struck}
 use Rattle.model.proofs.Change.{all-reverse}

@@ -1,18 +1,16 @@
 -- From a text's first run to its outcome.
-use Rattle.std.proofs.Common.{◌≡◌, ℕ, zero, suc, ◌-◌, ◌≤◌, false, not, List, [], ◌∷◌, ◌++◌, length, get_or, replicate, take, drop, Ok, Err, Result, refl, sym, ap, ◌∙◌, subst, inr, eqb, arith}
+use Rattle.std.proofs.Common.{◌≡◌, ℕ, zero, suc, ◌≤◌, false, not, List, [], length, get_or, replicate, Ok, Err, Result, refl, sym, ap, ◌∙◌, subst, inr, eqb, arith}
 use Rattle.std.proofs.Math.Path.{fun_ext}
 use Rattle.std.proofs.lemmas.List.{length-replicate}
 use Rattle.font.specs.Font.{Font}
 use Rattle.model.specs.declared.Entry.{Entry}
 use Rattle.model.specs.declared.Glyph.{Glyph}
 use Rattle.model.specs.Shaping.{Ending, Runs, accepted, laid, marks, start, stopped}
-use Rattle.model.proofs.Cut.{laid_in, length-laid}
-use Rattle.model.proofs.Marks.{length-marks}
+use Rattle.model.proofs.Cut.{laid_in}
 use Rattle.model.proofs.Rises.{laid-rising}
 use Rattle.shaping.specs.declared.stop.Stop.{Stop}
 use Rattle.shaping.specs.Attempts.{Ready, inputs_of, stop_number}
 use Rattle.shaping.specs.First.{Filled, Marked, first_state}
-use Rattle.ties.specs.Ties.{tied_in}
 
 pub first-ready : (font : Font) (text : List ℕ) (run : List Glyph) (n : ℕ) → run ≡ laid font 0 text → n ≡ length text → Ready n (first_state run [])
 first-ready font text run n e h =

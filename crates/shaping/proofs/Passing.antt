@@ -1,9 +1,9 @@
 -- Passes and plans, a step at a time.
-use Rattle.std.proofs.Common.{◌≡◌, ℕ, zero, suc, ◌+◌, ◌-◌, ◌*◌, ◌<◌, ◌≤◌, Bool, true, false, cond, ltb, List, [], ◌∷◌, map, length, drop, Some, None, Option, Ok, Err, Result, refl, sym, ap, ◌∙◌, subst, inl, inr, arith}
+use Rattle.std.proofs.Common.{◌≡◌, ℕ, suc, ◌+◌, ◌-◌, ◌*◌, ◌<◌, ◌≤◌, true, false, ltb, List, [], ◌∷◌, length, drop, Some, None, Option, Ok, Err, refl, sym, ap, ◌∙◌, subst, inl, inr, arith}
 use Rattle.std.proofs.Math.Nat.{mul-le-mul_right, suc-mul}
 use Rattle.std.proofs.lemmas.List.{drop_all}
 use Rattle.model.specs.declared.Entry.{Entry}
-use Rattle.model.specs.Edits.{Frame, told}
+use Rattle.model.specs.Edits.{Frame}
 use Rattle.model.specs.Shaping.{Attempt, Ending, Inputs, Pass, Runs, State, Sweeps, accepted, answer, attempt, back_pass, barred, ends, hit, hits, miss, misses, planned, stopped, stops}
 use Rattle.model.proofs.Chain.{Strike}
 use Rattle.model.proofs.Keeps.{strike-in}

@@ -1,5 +1,5 @@
 -- What the code answers to an attempt, by what the definitions say that it comes to.
-use Rattle.std.specs.Prelude.{◌≡◌, ℕ, suc, ◌<◌, cond, drop, true, false, ◌∷◌, List, [], map, length, Some, None, Option, Ok, Err, Result, nat_lt, nat_le}
+use Rattle.std.specs.Prelude.{◌≡◌, ℕ, suc, ◌<◌, cond, drop, true, false, ◌∷◌, List, map, length, Some, None, Option, Ok, Err, Result, nat_lt, nat_le}
 use Rattle.std.specs.List.{AllByRecursion}
 use Rattle.std.proofs.Math.ListN.{get_elem?}
 use Rattle.font.specs.Font.{Font}

@@ -1,7 +1,7 @@
 -- A state of shaping with no hit so far, and what a plan comes to from there.
-use Rattle.std.specs.Prelude.{◌≡◌, ℕ, List, Ok, Err, Result, length}
+use Rattle.std.specs.Prelude.{◌≡◌, ℕ, List, Ok, Err, Result}
 use Rattle.model.specs.declared.Glyph.{Glyph}
-use Rattle.model.specs.Shaping.{Ending, Inputs, Outcome, Runs, Shapes, State, accepted, marks, refused, shaped, stopped}
+use Rattle.model.specs.Shaping.{Ending, Inputs, Runs, Shapes, State, accepted, marks, refused, shaped, stopped}
 use Rattle.shaping.specs.declared.stop.Stop.{Stop}
 use Rattle.shaping.specs.Attempts.{stop_number}
 use Rattle.ties.specs.Ties.{tied_in}

@@ -11,9 +11,9 @@ ghost use Rattle.shaping.specs.Work.{Lent, state_of};
 
 use crate::shape::Inputs;
 use crate::stop::Stop;
+use crate::work::Work;
 use candidates::found::{Action, Records};
 use candidates::lookup::Lookup;
-use crate::work::Work;
 use font::source::FontSource;
 
 // What a record runs: a lookup, at a position.

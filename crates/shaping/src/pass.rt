@@ -7,16 +7,21 @@ ghost use Rattle.model.specs.Shaping.{Pass, Runs, Sweeps, back_pass};
 ghost use Rattle.shaping.specs.Attempts.{Ready, ending_of, inputs_of};
 ghost use Rattle.shaping.specs.Work.{Idle, Lent, state_of};
 
-use candidates::lookup::Lookup;
 use crate::shape::Inputs;
 use crate::stop::Stop;
 use crate::work::Work;
+use candidates::lookup::Lookup;
 use font::source::FontSource;
 use model::Entry;
 
 impl<S: FontSource> Inputs<'_, S> {
     // From the first glyph on: after a hit at the match's end, else at the next glyph.
-    fn forward(&self, work: &mut Work<'_, '_>, alternate: u16, lookup: &Lookup<'_>) -> Result<(), Stop>
+    fn forward(
+        &self,
+        work: &mut Work<'_, '_>,
+        alternate: u16,
+        lookup: &Lookup<'_>,
+    ) -> Result<(), Stop>
         requires idle { Idle work.old }
         requires named { (n : ℕ) × (lookup_of lookup.now ≡ gsub_means self.now.table.table.now n) }
         ensures pass { (x : Entry) → x.alternate ≡ alternate → lookup_of lookup.now ≡ gsub_means self.now.table.table.now x.lookup → Pass (inputs_of (S.FontSource.means self.now.source.now) self.now.table.table.now self.now.plan.now self.now.limit (room_of work.old.editing)) x 0 (state_of work.old) (ending_of result (state_of work.new)) }
@@ -34,7 +39,12 @@ impl<S: FontSource> Inputs<'_, S> {
     }
 
     // From the last glyph to the first.
-    fn backward(&self, work: &mut Work<'_, '_>, alternate: u16, lookup: &Lookup<'_>) -> Result<(), Stop>
+    fn backward(
+        &self,
+        work: &mut Work<'_, '_>,
+        alternate: u16,
+        lookup: &Lookup<'_>,
+    ) -> Result<(), Stop>
         requires idle { Idle work.old }
         requires named { (n : ℕ) × (lookup_of lookup.now ≡ gsub_means self.now.table.table.now n) }
         ensures pass { (x : Entry) → x.alternate ≡ alternate → lookup_of lookup.now ≡ gsub_means self.now.table.table.now x.lookup → ending_of result (state_of work.new) ≡ back_pass (inputs_of (S.FontSource.means self.now.source.now) self.now.table.table.now self.now.plan.now self.now.limit (room_of work.old.editing)) x (length (glyphs_of work.old.editing)) (state_of work.old) }

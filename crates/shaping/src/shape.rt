@@ -150,12 +150,7 @@ impl<S: FontSource> Inputs<'_, S> {
     }
 
     // Shapes a text into the memory that is lent. What lies past the result is zero, and all is zero where the hit limit or the room ended it; where something was refused before, nothing changes.
-    pub fn shape(
-        &self,
-        text: &[u32],
-        run: &mut [Glyph],
-        marks: &mut [u8],
-    ) -> Result<Laid, Refusal>
+    pub fn shape(&self, text: &[u32], run: &mut [Glyph], marks: &mut [u8]) -> Result<Laid, Refusal>
         ensures first { (n : ℕ) → refused_first (length text.now) (length run.old) (length marks.old) self.now.limit (lookup_count self.now.table.table.now) self.now.plan.now ≡ Some n → (told result ≡ refused n) × (run.new ≡ run.old) × (marks.new ≡ marks.old) }
         ensures outcome { refused_first (length text.now) (length run.old) (length marks.old) self.now.limit (lookup_count self.now.table.table.now) self.now.plan.now ≡ None → (o : Outcome) × Shapes (inputs_of (S.FontSource.means self.now.source.now) self.now.table.table.now self.now.plan.now self.now.limit (length run.old)) text.now o × (told result ≡ answer_of o) × (run.new ≡ run_left o (length run.old)) × (marks.new ≡ marks_left o (length marks.old)) }
     {
@@ -163,10 +158,7 @@ impl<S: FontSource> Inputs<'_, S> {
         match self.lay_out(text, run, marks) {
             Ok(laid) => Ok(laid),
             Err(stop) => {
-                run.fill(Glyph {
-                    glyph: 0,
-                    cluster: 0,
-                });
+                run::clear(run);
                 clear_ties(marks);
                 Err(Refusal::from(stop))
             }

@@ -1,24 +1,22 @@
-use Rattle.std.proofs.Common.{◌≡◌, ◌+◌, ◌-◌, ◌≤◌, ◌<◌, [], ◌∷◌, ℕ, List, length, map, take, drop, slice_get, Some, None, Ok, Err, refl, sym, ap, ◌∙◌, subst, arith}
-use Rattle.std.proofs.Math.Option.{some}
+use Rattle.std.proofs.Common.{◌≡◌, ◌+◌, ◌-◌, ◌≤◌, ◌<◌, [], ◌∷◌, ℕ, length, map, take, Some, Ok, Err, refl, sym, ap, ◌∙◌, subst, arith}
 use Rattle.std.proofs.lemmas.List.{length-map}
 use Rattle.std.proofs.lemmas.Result.{err_from_is_err_and}
-use Rattle.model.specs.Edits.{Frame, edits, frame_at, told}
+use Rattle.model.specs.Edits.{edits, frame_at, told}
 use Rattle.model.specs.Shaping.{attempt}
 use Rattle.model.proofs.Chain.{inner}
-use Rattle.editing.specs.Contents.{glyphs_of, open_of, room_of}
-use Rattle.matching.specs.Seek.{glyph_at}
+use Rattle.editing.specs.Contents.{open_of, room_of}
 use Rattle.candidates.specs.Actions.{action_of, records_of}
 use Rattle.candidates.specs.LookupOf.{lookup_of}
 use Rattle.candidates.specs.declared.found.Action.{Action}
 use Rattle.candidates.specs.declared.found.Action.TheVariants.{Put, Join, Nest}
 use Rattle.candidates.specs.declared.found.Records.{Records}
 use Rattle.ties.specs.Ties.{tied_in}
-use Rattle.shaping.specs.Attempts.{Comes, Inwards, Ready, inputs_of, match_at}
+use Rattle.shaping.specs.Attempts.{Comes, Ready, inputs_of, match_at}
 use Rattle.shaping.specs.declared.work.Work.{Work}
 use Rattle.shaping.specs.Work.{Lent, state_of}
 use Rattle.shaping.proofs.Works.{lent-on}
 use Rattle.shaping.proofs.Attempts.{Quiet, Ran, ran-first}
-use Rattle.shaping.proofs.Depth.{as-deep, chose-nested, chose-nested-stopped, chose-none, chose-quiet, chose-stopped, found-inside, hi-below, record-idle, record-ran, record-ready, record-stopped, took-ready}
+use Rattle.shaping.proofs.Depth.{chose-nested, chose-nested-stopped, chose-none, chose-quiet, chose-stopped, found-inside, hi-below, record-idle, record-ran, record-ready, record-stopped, took-ready}
 use Rattle.shaping.proofs.shape.Inputs.+attempt.Goals as goal
 use Rattle.shaping.proofs.shape.Inputs.+attempt.Goals.{in-Some-inner+in_ok-attempt, in_default-inner, in-Nest+else-loop-i-test, in_default-action}
 
@@ -70,8 +68,8 @@ loop-i-init g t c =
     let deep = ap length took.3 ∙ length-map (frame_at c.args.p m.others ∷ fs) (told (edits m.action m.others c.args.p)) in
     record {
       ran = λ f₀ fs₀ opened.
-      subst (Ran (inner inputs (attempt inputs (c.args.depth - 1) c.args.alternate)) (records_of c.in-Nest.records) f₀ s₁ fs₀ 0 s₁) (sym opened)
-      (ran-first (inner inputs (attempt inputs (c.args.depth - 1) c.args.alternate)) (records_of c.in-Nest.records) f₀ s₁ fs₀);
+          subst (Ran (inner inputs (attempt inputs (c.args.depth - 1) c.args.alternate)) (records_of c.in-Nest.records) f₀ s₁ fs₀ 0 s₁) (sym opened)
+          (ran-first (inner inputs (attempt inputs (c.args.depth - 1) c.args.alternate)) (records_of c.in-Nest.records) f₀ s₁ fs₀);
       ready = subst (λ n. Ready n s₁) (sym lent.3) (took-ready inputs k c.args.alternate c.args.p s m here (c.in-Some.ensures.chosen here) fs _ s₁ (open_of c.strike.new.work.editing) took (length c.args.work.now.ties.now) c.requires.ready);
       lent = lent;
       deep = omega (arith, deep, c.requires.open, c.if-depth-eq0.false);
@@ -133,37 +131,41 @@ loop-i-preserved g t c =
     let so_far = c.loop-i.invariant in
     record {
       ran = λ f fs' opened. elim c.match-inner.branch [
-        in-Some-inner+in_ok-attempt w ↦
-        subst (λ (v : Work). Ran try rs f s₁ fs' (c.loop-i.i + 1) (state_of v) (open_of v.editing)) (sym w.work-is)
-        (record-ran inputs d c.args.alternate rs f s₁ fs' c.loop-i.i s₂ fs₂ (so_far.ran f fs' opened) more w.in-Some-inner.inner (λ h gs q e i. w.in-Some-inner.ensures h gs q room e i)
-        (state_of w.attempt.new.work) (open_of w.attempt.new.work.editing) w.in_ok-attempt.field-0
-        (subst (λ r. (n : ℕ) → lookup_of w.in-Some-inner.inner.lookup ≡ inputs.table n → Comes (attempt (inputs_of font c.args.self.now.table.table.now c.args.self.now.plan.now c.args.self.now.limit r) d c.args.alternate n w.in-Some-inner.inner.at s₂) s₂ fs₂ (Ok w.in_ok-attempt.field-0) (state_of w.attempt.new.work) (open_of w.attempt.new.work.editing))
-        so_far.lent.1 w.in_ok-attempt.ensures.answer))
+        | in-Some-inner+in_ok-attempt w ↦
+            subst (λ (v : Work). Ran try rs f s₁ fs' (c.loop-i.i + 1) (state_of v) (open_of v.editing)) (sym w.work-is)
+            (record-ran inputs d c.args.alternate rs f s₁ fs' c.loop-i.i s₂ fs₂ (so_far.ran f fs' opened) more w.in-Some-inner.inner (λ h gs q e i. w.in-Some-inner.ensures h gs q room e i)
+            (state_of w.attempt.new.work) (open_of w.attempt.new.work.editing) w.in_ok-attempt.field-0
+            (subst (λ r. (n : ℕ) → lookup_of w.in-Some-inner.inner.lookup ≡ inputs.table n → Comes (attempt (inputs_of font c.args.self.now.table.table.now c.args.self.now.plan.now c.args.self.now.limit r) d c.args.alternate n w.in-Some-inner.inner.at s₂) s₂ fs₂ (Ok w.in_ok-attempt.field-0) (state_of w.attempt.new.work) (open_of w.attempt.new.work.editing))
+            so_far.lent.1 w.in_ok-attempt.ensures.answer))
         | in_default-inner w ↦
-        subst (λ (v : Work). Ran try rs f s₁ fs' (c.loop-i.i + 1) (state_of v) (open_of v.editing)) (sym w.work-is)
-        (record-idle inputs d c.args.alternate rs f s₁ fs' c.loop-i.i s₂ fs₂ (so_far.ran f fs' opened) more (λ h gs q e i. w.in_default-inner.ensures h gs q room e i))
+            subst (λ (v : Work). Ran try rs f s₁ fs' (c.loop-i.i + 1) (state_of v) (open_of v.editing)) (sym w.work-is)
+            (record-idle inputs d c.args.alternate rs f s₁ fs' c.loop-i.i s₂ fs₂ (so_far.ran f fs' opened) more (λ h gs q e i. w.in_default-inner.ensures h gs q room e i))
       ];
       ready = elim c.match-inner.branch [
-        in-Some-inner+in_ok-attempt w ↦
-        subst (λ (v : Work). Ready (length v.ties.now) (state_of v)) (sym w.work-is)
-        (subst (λ n. Ready n (state_of w.attempt.new.work)) (sym w.in_ok-attempt.ensures.lent.3)
-        (record-ready inputs d c.args.alternate rs f₀ s₁ fs₀ c.loop-i.i s₂ fs₂ (so_far.ran f₀ fs₀ took.3) more w.in-Some-inner.inner (λ h gs q e i. w.in-Some-inner.ensures h gs q room e i)
-        (state_of w.attempt.new.work) (open_of w.attempt.new.work.editing) (length c.loop-i.work.ties.now) so_far.ready w.in_ok-attempt.field-0
-        (subst (λ r. (n : ℕ) → lookup_of w.in-Some-inner.inner.lookup ≡ inputs.table n → Comes (attempt (inputs_of font c.args.self.now.table.table.now c.args.self.now.plan.now c.args.self.now.limit r) d c.args.alternate n w.in-Some-inner.inner.at s₂) s₂ fs₂ (Ok w.in_ok-attempt.field-0) (state_of w.attempt.new.work) (open_of w.attempt.new.work.editing))
-        so_far.lent.1 w.in_ok-attempt.ensures.answer)).0)
+        | in-Some-inner+in_ok-attempt w ↦
+            subst (λ (v : Work). Ready (length v.ties.now) (state_of v)) (sym w.work-is)
+            (subst (λ n. Ready n (state_of w.attempt.new.work)) (sym w.in_ok-attempt.ensures.lent.3)
+            (record-ready inputs d c.args.alternate rs f₀ s₁ fs₀ c.loop-i.i s₂ fs₂ (so_far.ran f₀ fs₀ took.3) more w.in-Some-inner.inner (λ h gs q e i. w.in-Some-inner.ensures h gs q room e i)
+            (state_of w.attempt.new.work) (open_of w.attempt.new.work.editing) (length c.loop-i.work.ties.now) so_far.ready w.in_ok-attempt.field-0
+            (subst (λ r. (n : ℕ) → lookup_of w.in-Some-inner.inner.lookup ≡ inputs.table n → Comes (attempt (inputs_of font c.args.self.now.table.table.now c.args.self.now.plan.now c.args.self.now.limit r) d c.args.alternate n w.in-Some-inner.inner.at s₂) s₂ fs₂ (Ok w.in_ok-attempt.field-0) (state_of w.attempt.new.work) (open_of w.attempt.new.work.editing))
+            so_far.lent.1 w.in_ok-attempt.ensures.answer)).0)
         | in_default-inner w ↦ subst (λ (v : Work). Ready (length v.ties.now) (state_of v)) (sym w.work-is) so_far.ready
       ];
       lent = elim c.match-inner.branch [
-        in-Some-inner+in_ok-attempt w ↦ subst (λ (v : Work). Lent v c.args.work.now) (sym w.work-is) (lent-on w.attempt.new.work c.loop-i.work c.args.work.now w.in_ok-attempt.ensures.lent so_far.lent)
+        | in-Some-inner+in_ok-attempt w ↦ subst (λ (v : Work). Lent v c.args.work.now) (sym w.work-is) (lent-on w.attempt.new.work c.loop-i.work c.args.work.now w.in_ok-attempt.ensures.lent so_far.lent)
         | in_default-inner w ↦ subst (λ (v : Work). Lent v c.args.work.now) (sym w.work-is) so_far.lent
       ];
       deep = elim c.match-inner.branch [
-        in-Some-inner+in_ok-attempt w ↦
-        subst (λ (v : Work). length (open_of v.editing) + d ≤ 6) (sym w.work-is)
-        (omega (arith, so_far.deep, (record-ready inputs d c.args.alternate rs f₀ s₁ fs₀ c.loop-i.i s₂ fs₂ (so_far.ran f₀ fs₀ took.3) more w.in-Some-inner.inner (λ h gs q e i. w.in-Some-inner.ensures h gs q room e i)
-        (state_of w.attempt.new.work) (open_of w.attempt.new.work.editing) (length c.loop-i.work.ties.now) so_far.ready w.in_ok-attempt.field-0
-        (subst (λ r. (n : ℕ) → lookup_of w.in-Some-inner.inner.lookup ≡ inputs.table n → Comes (attempt (inputs_of font c.args.self.now.table.table.now c.args.self.now.plan.now c.args.self.now.limit r) d c.args.alternate n w.in-Some-inner.inner.at s₂) s₂ fs₂ (Ok w.in_ok-attempt.field-0) (state_of w.attempt.new.work) (open_of w.attempt.new.work.editing))
-        so_far.lent.1 w.in_ok-attempt.ensures.answer)).1))
+        | in-Some-inner+in_ok-attempt w ↦
+            subst (λ (v : Work). length (open_of v.editing) + d ≤ 6) (sym w.work-is)
+            (omega (
+              arith,
+              so_far.deep,
+              (record-ready inputs d c.args.alternate rs f₀ s₁ fs₀ c.loop-i.i s₂ fs₂ (so_far.ran f₀ fs₀ took.3) more w.in-Some-inner.inner (λ h gs q e i. w.in-Some-inner.ensures h gs q room e i)
+                  (state_of w.attempt.new.work) (open_of w.attempt.new.work.editing) (length c.loop-i.work.ties.now) so_far.ready w.in_ok-attempt.field-0
+                  (subst (λ r. (n : ℕ) → lookup_of w.in-Some-inner.inner.lookup ≡ inputs.table n → Comes (attempt (inputs_of font c.args.self.now.table.table.now c.args.self.now.plan.now c.args.self.now.limit r) d c.args.alternate n w.in-Some-inner.inner.at s₂) s₂ fs₂ (Ok w.in_ok-attempt.field-0) (state_of w.attempt.new.work) (open_of w.attempt.new.work.editing))
+                  so_far.lent.1 w.in_ok-attempt.ensures.answer)).1,
+            ))
         | in_default-inner w ↦ subst (λ (v : Work). length (open_of v.editing) + d ≤ 6) (sym w.work-is) so_far.deep
       ];
     }
@@ -191,13 +193,13 @@ returns-clause-answer g t c = λ l named.
     λ i. record { run = c.close_match.ensures.glyphs i; tied = tied_in v.ties.now; hits = v.hits } in
     subst (λ q. Comes (attempt inputs c.args.depth c.args.alternate l c.args.p s) s fs (Ok (Some e)) q fs') (sym closed)
     (elim c.match-found.branch [
-      in-Nest+else-loop-i-test w ↦
-      subst (λ (q : Work). Comes (attempt inputs c.args.depth c.args.alternate l c.args.p s) s fs (Ok (Some e)) (state_of q) fs') (sym w.work-is)
-      (chose-nested inputs k c.args.alternate l c.args.p s named here m (λ h. c.in-Some.ensures.chosen h) fs c.args.depth c.if-depth-eq0.false c.in_ok-strike.field-0 s₁ (open_of c.strike.new.work.editing) took (records_of w.in-Nest.records) (ap action_of w.in-Nest.is)
-      w.loop-i.i (state_of w.loop-i.work) (open_of w.loop-i.work.editing) e fs' (omega (arith, w.loop-i-test.false, w.len-i-end.ensures)) (w.loop-i.invariant.ran f₀ fs₀ took.3)
-      (λ f gs o. c.close_match.ensures.closed f gs (ap (λ (q : Work). open_of q.editing) w.work-is ∙ o)))
+      | in-Nest+else-loop-i-test w ↦
+          subst (λ (q : Work). Comes (attempt inputs c.args.depth c.args.alternate l c.args.p s) s fs (Ok (Some e)) (state_of q) fs') (sym w.work-is)
+          (chose-nested inputs k c.args.alternate l c.args.p s named here m (λ h. c.in-Some.ensures.chosen h) fs c.args.depth c.if-depth-eq0.false c.in_ok-strike.field-0 s₁ (open_of c.strike.new.work.editing) took (records_of w.in-Nest.records) (ap action_of w.in-Nest.is)
+          w.loop-i.i (state_of w.loop-i.work) (open_of w.loop-i.work.editing) e fs' (omega (arith, w.loop-i-test.false, w.len-i-end.ensures)) (w.loop-i.invariant.ran f₀ fs₀ took.3)
+          (λ f gs o. c.close_match.ensures.closed f gs (ap (λ (q : Work). open_of q.editing) w.work-is ∙ o)))
       | in_default-action w ↦
-      subst (λ (q : Work). Comes (attempt inputs c.args.depth c.args.alternate l c.args.p s) s fs (Ok (Some e)) (state_of q) fs') (sym w.work-is)
-      (chose-quiet inputs k c.args.alternate l c.args.p s named here m (λ h. c.in-Some.ensures.chosen h) fs c.args.depth c.if-depth-eq0.false c.in_ok-strike.field-0 s₁ (open_of c.strike.new.work.editing) took
-      (quiet-by found.action w.in_default-action.not-Nest) e fs' (c.close_match.ensures.closed f₀ fs₀ (ap (λ (q : Work). open_of q.editing) w.work-is ∙ took.3)))
+          subst (λ (q : Work). Comes (attempt inputs c.args.depth c.args.alternate l c.args.p s) s fs (Ok (Some e)) (state_of q) fs') (sym w.work-is)
+          (chose-quiet inputs k c.args.alternate l c.args.p s named here m (λ h. c.in-Some.ensures.chosen h) fs c.args.depth c.if-depth-eq0.false c.in_ok-strike.field-0 s₁ (open_of c.strike.new.work.editing) took
+          (quiet-by found.action w.in_default-action.not-Nest) e fs' (c.close_match.ensures.closed f₀ fs₀ (ap (λ (q : Work). open_of q.editing) w.work-is ∙ took.3)))
     ])

@@ -1,4 +1,4 @@
-use Rattle.std.proofs.Common.{◌≡◌, ℕ, zero, suc, ◌-◌, [], length, Ok, Err, sym, ap, ◌∙◌, subst, arith}
+use Rattle.std.proofs.Common.{◌≡◌, ℕ, zero, suc, ◌-◌, length, Ok, Err, sym, ap, ◌∙◌, subst, arith}
 use Rattle.std.proofs.lemmas.Result.{err_from_is_err_and}
 use Rattle.candidates.specs.LookupOf.{lookup_of}
 use Rattle.editing.specs.Contents.{glyphs_of, open_of, room_of}
@@ -26,7 +26,7 @@ loop-i-preserved g c =
     subst (λ r. (l : ℕ) → lookup_of c.args.lookup.now ≡ gsub_means t l → Comes (attempt (inputs_of font t c.args.self.now.plan.now c.args.self.now.limit r) 6 c.args.alternate l i s) s fs (Ok c.in_ok-attempt.field-0) s' fs') c.loop-i.invariant.lent.1 c.in_ok-attempt.ensures.answer in
     record {
       on = λ x v named. back-on inputs x (back_pass inputs x (length (glyphs_of c.args.work.now.editing)) (state_of c.args.work.now)) i s (c.loop-i.invariant.on x v named ∙ ap (λ n. back_pass inputs x n s) one) fs s' fs' c.in_ok-attempt.field-0
-      (subst (λ a. Comes (attempt inputs 6 a x.lookup i s) s fs (Ok c.in_ok-attempt.field-0) s' fs') (sym v) (comes x.lookup named));
+          (subst (λ a. Comes (attempt inputs 6 a x.lookup i s) s fs (Ok c.in_ok-attempt.field-0) s' fs') (sym v) (comes x.lookup named));
       idle = (
         none-open (attempt inputs 6 c.args.alternate c.requires.named.0 i s) s s' fs' c.in_ok-attempt.field-0 (subst (λ xs. Comes (attempt inputs 6 c.args.alternate c.requires.named.0 i s) s xs (Ok c.in_ok-attempt.field-0) s' fs') c.loop-i.invariant.idle.0 (comes c.requires.named.0 c.requires.named.1)),
         subst (λ n. Ready n s') (sym c.attempt.ensures.lent.3) (ready-on inputs (length c.loop-i.work.ties.now) 6 c.args.alternate c.requires.named.0 i s c.loop-i.invariant.idle.1 s' fs fs' c.in_ok-attempt.field-0 (comes c.requires.named.0 c.requires.named.1)),

@@ -1,9 +1,6 @@
-use Rattle.std.proofs.Common.{◌≡◌, ℕ, ◌≤◌, length, sym, ap, ◌∙◌, subst, arith}
+use Rattle.std.proofs.Common.{length, ap, ◌∙◌, arith}
 use Rattle.std.proofs.lemmas.List.{length-replicate}
-use Rattle.font.specs.Font.{Font}
 use Rattle.run.specs.Contents.{glyphs_of, room_of}
-use Rattle.shaping.specs.Attempts.{Ready, inputs_of}
-use Rattle.shaping.specs.First.{Filled, first_state}
 use Rattle.shaping.proofs.Firsts.{filled-by, first-ready}
 use Rattle.shaping.proofs.shape.Inputs.fill.Goals as goal
 

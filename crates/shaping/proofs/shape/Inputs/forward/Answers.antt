@@ -1,13 +1,12 @@
-use Rattle.std.proofs.Common.{◌≡◌, ℕ, ◌+◌, ◌<◌, ◌≤◌, true, false, List, [], ◌∷◌, length, Some, None, Ok, Err, ltb, sym, ap, ◌∙◌, subst, arith}
+use Rattle.std.proofs.Common.{◌≡◌, ℕ, ◌≤◌, true, length, Some, None, Ok, Err, ltb, sym, ap, ◌∙◌, subst, arith}
 use Rattle.std.proofs.lemmas.Bool.{lt-ltb, le-ltb}
 use Rattle.std.proofs.lemmas.Result.{err_from_is_err_and}
 use Rattle.candidates.specs.LookupOf.{lookup_of}
-use Rattle.editing.specs.Contents.{glyphs_of, open_of, room_of}
+use Rattle.editing.specs.Contents.{open_of, room_of}
 use Rattle.gsub.specs.Meaning.{gsub_means}
-use Rattle.model.specs.declared.Entry.{Entry}
-use Rattle.model.specs.Shaping.{Ending, Pass, attempt}
+use Rattle.model.specs.Shaping.{Pass, attempt}
 use Rattle.shaping.specs.Attempts.{Comes, Ready, ending_of, inputs_of}
-use Rattle.shaping.specs.Work.{Lent, state_of}
+use Rattle.shaping.specs.Work.{state_of}
 use Rattle.shaping.proofs.Works.{lent-on}
 use Rattle.shaping.proofs.Passing.{goes-on, left-hit, left-missed, none-open, onward, onward-ends, onward-stops, ready-on, room-kept, stays}
 use Rattle.shaping.proofs.shape.Inputs.forward.Goals as goal

@@ -1,6 +1,6 @@
-use Rattle.std.proofs.Common.{◌≡◌, ◌+◌, ◌-◌, ◌*◌, ◌≤◌, length}
+use Rattle.std.proofs.Common.{◌≡◌}
 use Rattle.candidates.specs.LookupOf.{lookup_of}
-use Rattle.editing.specs.Contents.{glyphs_of, room_of}
+use Rattle.editing.specs.Contents.{room_of}
 use Rattle.gsub.specs.Meaning.{gsub_means}
 use Rattle.model.specs.declared.Entry.{Entry}
 use Rattle.shaping.specs.Attempts.{inputs_of}

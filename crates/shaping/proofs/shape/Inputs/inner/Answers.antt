@@ -1,6 +1,5 @@
-use Rattle.std.proofs.Common.{◌≡◌, ◌∷◌, List, map, slice_get, option_map, Some, None, false, true, ℕ, sym, ap, ◌∙◌, subst}
+use Rattle.std.proofs.Common.{◌≡◌, List, map, slice_get, option_map, Some, None, ℕ, sym, ap, ◌∙◌, subst}
 use Rattle.std.proofs.lemmas.Option.{slice_get-map}
-use Rattle.model.specs.Edits.{Frame}
 use Rattle.model.specs.Lookups.{LookupRecord}
 use Rattle.candidates.specs.declared.found.Record.{Record}
 use Rattle.shaping.specs.Attempts.{Inwards, inputs_of}

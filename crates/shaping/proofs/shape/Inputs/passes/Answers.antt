@@ -2,7 +2,6 @@ use Rattle.std.proofs.Common.{◌≡◌, ◌+◌, ◌∷◌, get_or, drop, Ok, E
 use Rattle.std.proofs.lemmas.List.{drop_more}
 use Rattle.std.proofs.lemmas.Result.{err_from_is_err_and}
 use Rattle.editing.specs.Contents.{room_of}
-use Rattle.model.specs.declared.Entry.{Entry}
 use Rattle.model.specs.Shaping.{Runs, Sweeps}
 use Rattle.shaping.specs.Attempts.{ending_of, inputs_of, stop_number}
 use Rattle.shaping.specs.Work.{state_of}
@@ -42,7 +41,7 @@ loop-entry-preserved g c =
     let is : drop i plan ≡ x ∷ drop (i + 1) plan = drop_more plan i (record { lookup = 0; alternate = 0 }) (omega (arith, c.loop-entry-test.true)) in
     record {
       on = plan-on inputs plan (state_of c.args.work.now) i s c.loop-entry.invariant.on x is s'
-      (subst (λ r. Sweeps (inputs_of font t plan limit r) x s (ending_of (Ok c.in_ok-sweep.field-0) s')) c.loop-entry.invariant.lent.1 c.in_ok-sweep.ensures.pass);
+          (subst (λ r. Sweeps (inputs_of font t plan limit r) x s (ending_of (Ok c.in_ok-sweep.field-0) s')) c.loop-entry.invariant.lent.1 c.in_ok-sweep.ensures.pass);
       idle = c.in_ok-sweep.ensures.idle;
       lent = lent-on c.sweep.new.work c.loop-entry.work c.args.work.now c.sweep.ensures.lent c.loop-entry.invariant.lent;
     }

@@ -1,14 +1,11 @@
-use Rattle.std.proofs.Common.{◌≡◌, ◌+◌, ℕ, List, ◌∷◌, suc, true, drop, length, map, nat_le, nat_lt, sym, refl, ap, ◌∙◌, subst, arith}
+use Rattle.std.proofs.Common.{◌≡◌, ◌+◌, ◌∷◌, suc, true, drop, length, map, nat_le, sym, ap, ◌∙◌, subst, arith}
 use Rattle.std.proofs.Math.Path.{fun_ext}
 use Rattle.std.proofs.lemmas.Bool.{lt-ltb}
-use Rattle.model.specs.declared.Glyph.{Glyph}
 use Rattle.model.specs.Edits.{changed, edits, frame_at, told}
-use Rattle.model.specs.Shaping.{State}
 use Rattle.editing.specs.Contents.{glyphs_of, open_of, room_of}
 use Rattle.matching.specs.Seek.{glyph_at, mets_at}
 use Rattle.shaping.specs.Attempts.{match_at}
 use Rattle.candidates.specs.Actions.{action_of}
-use Rattle.shaping.specs.Work.{state_of}
 use Rattle.shaping.proofs.shape.Inputs.strike.Goals as goal
 
 pub returns-clause-took : goal.returns-clause-took
