@@ -2,12 +2,12 @@
 use Rattle.std.proofs.Common.{◌≡◌, ℕ, zero, suc, ◌+◌, ◌<◌, ◌≤◌, Bool, true, false, cond, ltb, List, [], ◌∷◌, length, refl, inl, inr, arith}
 use Rattle.std.proofs.lemmas.Bool.{ltb-true}
 use Rattle.model.specs.declared.Entry.{Entry}
-use Rattle.model.specs.Shaping.{Attempt, Ending, Inputs, Pass, Runs, State, Sweeps, accepted, back_pass, barred, ends, hit, hits, miss, misses, planned, stopped, stops}
+use Rattle.model.specs.Shaping.{Attempt, Ending, Inputs, Pass, Runs, State, Sweeps, accepted, attempt, back_pass, barred, ends, hit, hits, miss, misses, planned, stopped, stops}
 use Rattle.model.proofs.Chain.{Makes, attempt-makes, chain-keeps}
 use Rattle.model.proofs.Plans.{strike-hits}
 
 -- more hits, within the limit
-abbrev Climbs : Inputs → State → Attempt → Type 0
+abbrev pub Climbs : Inputs → State → Attempt → Type 0
 Climbs inputs s miss = Unit {0}
 Climbs inputs s (barred n) = Unit {0}
 Climbs inputs s (hit s' e es) = (s.hits < s'.hits) × (s'.hits ≤ inputs.limit)
@@ -17,6 +17,9 @@ makes-climbs inputs p s miss m = tt
 makes-climbs inputs p s (barred n) m = tt
 makes-climbs inputs p s (hit s' e es) (s₁, k, c, v, i) =
     chain-keeps inputs (λ u. (s.hits < u.hits) × (u.hits ≤ inputs.limit)) (λ q u u' k h. let more = strike-hits inputs q u u' k in (omega arith, more.1)) c (strike-hits inputs p s s₁ k)
+
+pub attempt-climbs : (inputs : Inputs) (d alt l p : ℕ) (s : State) → Climbs inputs s (attempt inputs d alt l p s)
+attempt-climbs inputs d alt l p s = makes-climbs inputs p s (attempt inputs d alt l p s) (attempt-makes inputs d alt l p s)
 
 module _ (inputs : Inputs) (x : Entry) where
   abbrev Ends : ℕ → State → Type 0
@@ -30,7 +33,7 @@ module _ (inputs : Inputs) (x : Entry) where
 
   one : (s : State) (i : ℕ) → ((e : ℕ) (s' : State) → s.hits < s'.hits → s'.hits ≤ inputs.limit → Ends e s') → (i < length s.run → Ends (suc i) s) → Ends i s
   one s i h m =
-      by-attempt i s (ltb i (length s.run)) (planned inputs x i s) refl refl (makes-climbs inputs i s (planned inputs x i s) (attempt-makes inputs 6 x.alternate x.lookup i s)) m h
+      by-attempt i s (ltb i (length s.run)) (planned inputs x i s) refl refl (attempt-climbs inputs 6 x.alternate x.lookup i s) m h
 
   -- with k glyphs left, where a state with more hits has an ending
   glyphs-left : (s : State) → ((e : ℕ) (s' : State) → s.hits < s'.hits → s'.hits ≤ inputs.limit → Ends e s') → (k i : ℕ) → length s.run ≤ i + k → Ends i s
