@@ -1,0 +1,4 @@
+pub mod Filling
+pub mod Alone
+pub mod Kept
+pub mod Sound
