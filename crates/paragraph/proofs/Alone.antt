@@ -1,12 +1,11 @@
 -- A text that is no longer than another is refused no earlier, in memory that is as long.
-use Rattle.std.proofs.Common.{◌≡◌, ℕ, zero, suc, ◌-◌, ◌≤◌, Bool, true, false, cond, ◌&&◌, leb, List, [], ◌∷◌, length, take, drop, slice_range, zero-le, Some, None, Option, refl, sym, ap, ◌∙◌, subst, arith}
-use Rattle.std.proofs.lemmas.Bool.{and_parts, le-leb, leb-true}
+use Rattle.std.proofs.Common.{◌≡◌, ℕ, zero, suc, ◌-◌, ◌≤◌, Bool, true, false, cond, List, [], ◌∷◌, length, take, drop, slice_range, zero-le, Some, None, Option, refl, sym, ap, ◌∙◌, subst, arith}
 use Rattle.std.proofs.lemmas.List.{length-drop}
 use Rattle.gsub.specs.Meaning.{gsub_means}
 use Rattle.gsub.specs.Tables.{lookup_count}
 use Rattle.model.specs.Limits.{plan_fits, sizes_fit}
 use Rattle.model.specs.Laws.{Alone, pieces}
-use Rattle.model.specs.Shaping.{Inputs as ShapingInputs, Outcome, Shaped, Shapes, refused, shaped}
+use Rattle.model.specs.Shaping.{Inputs as ShapingInputs, Outcome, Shaped, shaped}
 use Rattle.paragraph.specs.Calls.{Comes, Inputs, Memory, by_first, first_refusal}
 use Rattle.paragraph.specs.Law.{EachAlone}
 

@@ -2,3 +2,4 @@ pub mod Filling
 pub mod Alone
 pub mod Kept
 pub mod Sound
+pub mod Steps

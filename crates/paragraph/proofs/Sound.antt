@@ -1,11 +1,11 @@
 -- What a shaped paragraph keeps through every call, and that the law follows from it.
-use Rattle.std.proofs.Common.{◌≡◌, ℕ, ◌-◌, ◌+◌, ◌≤◌, ◌<◌, Bool, true, false, cond, ◌&&◌, ◌||◌, ◌==◌, List, [], ◌∷◌, ◌++◌, map, length, replicate, take, drop, nat_le, nat_lt, slice_range, sum_by, Some, None, Option, refl, sym, ap, ◌∙◌, subst, subst₂, arith}
+use Rattle.std.proofs.Common.{◌≡◌, ℕ, ◌-◌, ◌+◌, ◌≤◌, ◌<◌, Bool, true, false, cond, ◌&&◌, ◌||◌, ◌==◌, List, ◌++◌, map, length, replicate, take, drop, nat_le, nat_lt, slice_range, None, refl, sym, ap, ◌∙◌, subst, subst₂, arith}
 use Rattle.std.specs.List.{AllByRecursion, prefix_len}
-use Rattle.std.proofs.ByRecursion.{All-append, All-weaker}
+use Rattle.std.proofs.ByRecursion.{All-append}
 use Rattle.std.proofs.lemmas.Bool.{and_parts, leb-true, leb-false, ltb-false, or_parts}
 use Rattle.std.proofs.lemmas.List.{drop_at, length-append, length-drop, length-map, length-replicate, length-take, take_at}
 use Rattle.model.specs.declared.Glyph.{Glyph}
-use Rattle.model.specs.Laws.{Cuts, Free, pieces, raise, run_width, together}
+use Rattle.model.specs.Laws.{Cuts, Free, pieces, raise, run_width}
 use Rattle.model.specs.Limits.{sizes_fit}
 use Rattle.model.specs.Shaping.{Outcome, Shaped as ShapedText, Shapes, refused, shaped}
 use Rattle.model.proofs.Lines.{line-alone}
@@ -17,8 +17,8 @@ use Rattle.pick.specs.Lines.{stretch, before as lies_before, within as lies_with
 use Rattle.paragraph.specs.declared.shaped.Shaped.{Shaped}
 use Rattle.paragraph.specs.declared.slip.Slip.{Slip}
 use Rattle.paragraph.specs.Calls.{Answer, Call, Comes, Inputs, Line, Memory, Paragraph, by_first, clear, denied, done, filled, first_refusal, gives, is_blank, is_shaped, kept, left_by, line, owes, paid, pay, returned, shape, unpaid, waive}
-use Rattle.paragraph.specs.Step.{Pays, Step, after, characters, foreign, free, glyphs_of, line_answer, marks_of, owing, pay_answer, pay_leaves, records, shape_answer, shape_leaves, too_small, waive_answer, wrong_ends}
-use Rattle.paragraph.specs.Law.{Course, CuttingLaw, EachAlone, Gets, History, Outlasts, Right, ShapedAlone, Since, given_out, made, next, onward}
+use Rattle.paragraph.specs.Step.{Pays, Step, after, characters, foreign, free, glyphs_of, line_answer, marks_of, owing, pay_answer, pay_leaves, records, shape_leaves, too_small, wrong_ends}
+use Rattle.paragraph.specs.Law.{Course, CuttingLaw, Gets, History, Outlasts, Right, Since, given_out, made, next, onward}
 use Rattle.paragraph.proofs.Alone.{accepted-from, accepted-parts, each-alone, none-less, none-parts, pieces-shorter, range-shorter, shaping_inputs}
 use Rattle.paragraph.proofs.Kept.{count-is, first-is, free-is, middle-is, range-is}
 
@@ -81,7 +81,7 @@ module _ (k : Shaped) (s : Course) (h : Sound k s) (a b : ℕ) (before : a < b) 
         accepted-from x x.limit (slice_range x.text a b) m (shaped l.1) (none-less x x.limit x.text (slice_range x.text a b) m m (range-shorter x.text a b) refl refl h.ready) l.3,
         count,
         ap (λ q. take (records k m a b).count (drop (records k m a b).first q)) run ∙ ap (λ n. take (records k m a b).count (drop n ((l.0 ++ (map (raise a) l.1.run ++ l.2)) ++ h.z))) first
-        ∙ ap (λ n. take n (drop (length l.0) ((l.0 ++ (map (raise a) l.1.run ++ l.2)) ++ h.z))) (count ∙ sym long) ∙ middle-is l.0 (map (raise a) l.1.run) l.2 h.z,
+            ∙ ap (λ n. take n (drop (length l.0) ((l.0 ++ (map (raise a) l.1.run ++ l.2)) ++ h.z))) (count ∙ sym long) ∙ middle-is l.0 (map (raise a) l.1.run) l.2 h.z,
         ap (λ q. slice_range q a b) h.marks ∙ range-is h.w.marks h.v a b rise (omega (arith, within, long-marks k s h)) ∙ sym l.5,
       )
 

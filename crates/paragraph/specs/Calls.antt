@@ -6,7 +6,7 @@ use Rattle.gsub.specs.Tables.{lookup_count}
 use Rattle.model.specs.declared.Entry.{Entry}
 use Rattle.model.specs.declared.Glyph.{Glyph}
 use Rattle.model.specs.Limits.{refused_first}
-use Rattle.model.specs.Shaping.{Inputs as ShapingInputs, Outcome, Shapes, refused, shaped}
+use Rattle.model.specs.Shaping.{Outcome, Shapes, refused, shaped}
 use Rattle.paragraph.specs.declared.shaped.Shaped.{Shaped}
 use Rattle.paragraph.specs.declared.slip.Slip.{Slip}
 

@@ -1,5 +1,5 @@
 -- What each of the five calls answers, and what it leaves.
-use Rattle.std.specs.Prelude.{◌≡◌, ℕ, suc, pred, ◌-◌, ◌+◌, Bool, cond, not, ◌&&◌, ◌||◌, List, length, take, ◌==◌, nat_le, nat_lt, slice_index, slice_range}
+use Rattle.std.specs.Prelude.{◌≡◌, ℕ, ◌-◌, ◌+◌, Bool, cond, not, ◌&&◌, ◌||◌, List, length, take, ◌==◌, nat_le, nat_lt, slice_index, slice_range}
 use Rattle.model.specs.declared.Glyph.{Glyph}
 use Rattle.model.specs.Shaping.{Outcome, refused, shaped}
 use Rattle.pick.specs.declared.line.Stretch.{Stretch}

@@ -1,6 +1,6 @@
-ghost use Rattle.std.specs.Prelude.{◌≡◌, ℕ};
+ghost use Rattle.std.specs.Prelude.{◌≡◌, ◌≤◌, ◌<◌, ℕ, false, length};
 ghost use Rattle.paragraph.specs.Calls.{Inputs as AllInputs, Memory, is_shaped, pay, waive};
-ghost use Rattle.paragraph.specs.Step.{Step, foreign};
+ghost use Rattle.paragraph.specs.Step.{Step, foreign, wrong_ends};
 ghost use Rattle.paragraph.specs.Told.{inputs_of, memory, pay_told, waive_told};
 
 use crate::fill::fill;
@@ -22,6 +22,13 @@ impl Slip {
         ensures { result ≡ foreign of.now self.now }
     {
         self.number != of.number || of.owed == 0
+    }
+
+    fn has_wrong_ends(&self, text: &[u32]) -> bool
+        ensures answer { (x : AllInputs) → x.text ≡ text.now → result ≡ wrong_ends x self.now }
+        ensures inside { result ≡ false → (self.now.first < self.now.last) × (self.now.last ≤ length text.now) }
+    {
+        self.first >= self.last || self.last as usize > text.len()
     }
 
     // The slip is paid or waived.
@@ -47,12 +54,11 @@ impl Slip {
         if self.is_foreign(of) {
             return Err((self, Refusal::WrongSlip));
         }
-        let first = self.first as usize;
-        let last = self.last as usize;
-        if first >= last || last > text.len() {
+        if self.has_wrong_ends(text) {
             return Err((self, Refusal::Ends));
         }
-        match fill(inputs, of.limit, &text[first..last], run, marks) {
+        let characters = &text[self.first as usize..self.last as usize];
+        match fill(inputs, of.limit, characters, run, marks) {
             Ok(laid) => {
                 of.owed -= 1;
                 self.spend();

@@ -1,18 +1,28 @@
-use Rattle.std.proofs.Common.{rules, ◌≡◌, ◌≤◌, List, length, ℕ, ◌+◌, ◌-◌, ◌*◌, ◌<◌, ◌/◌, ◌%◌, Bool, true, false, nat_eq, nat_lt, [], ◌∷◌, ◌++◌, slice_index_or, slice_set, bit_and, bit_or, Fits, w8, w32, w64, Bor, MutBor}
-use Rattle.model.specs.declared.Glyph.{Glyph}
-use Rattle.paragraph.specs.Calls.{Inputs, Memory, clear, is_shaped, line}
-use Rattle.paragraph.specs.Step.{Step, free}
-use Rattle.paragraph.specs.Told.{clear_left, clear_told, line_told, memory}
+use Rattle.std.proofs.Common.{refl, sym, ap, ◌∙◌, arith}
+use Rattle.std.proofs.lemmas.Bool.{eq-eqb, ne_eqb}
+use Rattle.paragraph.specs.Calls.{gives, is_shaped, kept, owes}
+use Rattle.paragraph.specs.Told.{memory}
+use Rattle.paragraph.proofs.Steps.{line-full, line-kept, line-owed}
 use Rattle.paragraph.proofs.shaped.Shaped.line.Goals as goal
 
--- src/shaped.rt:73:13
-pub returns-then-is_free-2 : goal.returns-then-is_free-2
-returns-then-is_free-2 c = ?
+pub returns-then-are_free : goal.returns-then-are_free
+returns-then-are_free c = λ x. (
+  (λ i. gives (kept c.args.a c.args.b (c.find_line-line.ensures.line i).first (c.find_line-line.ensures.line i).count))
+      ∙ sym (line-kept c.args.self.now (memory c.args.run.now c.args.marks.now) c.args.a c.args.b (sym c.if-ends_past.ensures) (sym c.if-is_too_small.ensures.answer) (sym (c.if-are_free.ensures c.args.run.now))),
+  refl,
+  refl,
+)
 
--- src/shaped.rt:79:13
 pub returns-then-self : goal.returns-then-self
-returns-then-self c = ?
+returns-then-self c = λ x. (
+  sym (line-full c.args.self.now (memory c.args.run.now c.args.marks.now) c.args.a c.args.b (sym c.if-ends_past.ensures) (sym c.if-is_too_small.ensures.answer) (sym (c.if-are_free.ensures c.args.run.now)) (eq-eqb c.args.self.now.owed 65535 (omega (arith, c.if-self.true)))),
+  refl,
+  refl,
+)
 
--- src/shaped.rt:54:5
 pub returns : goal.returns
-returns c = ?
+returns c = λ x. (
+  ap owes c.owe.ensures.slip ∙ sym (line-owed c.args.self.now (memory c.args.run.now c.args.marks.now) c.args.a c.args.b (sym c.if-ends_past.ensures) (sym c.if-is_too_small.ensures.answer) (sym (c.if-are_free.ensures c.args.run.now)) (ne_eqb c.args.self.now.owed 65535 c.if-self.false)),
+  ap is_shaped c.owe.ensures.owed,
+  refl,
+)
