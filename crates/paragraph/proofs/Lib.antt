@@ -1,0 +1,5 @@
+pub mod Filling
+pub mod Alone
+pub mod Kept
+pub mod Sound
+pub mod Steps

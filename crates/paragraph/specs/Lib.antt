@@ -1,0 +1,4 @@
+pub mod Calls
+pub mod Step
+pub mod Law
+pub mod Told
