@@ -3,3 +3,4 @@ pub mod Alone
 pub mod Kept
 pub mod Sound
 pub mod Steps
+pub mod Example

@@ -2,3 +2,4 @@ pub mod Calls
 pub mod Step
 pub mod Law
 pub mod Told
+pub mod Example

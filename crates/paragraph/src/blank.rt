@@ -1,5 +1,6 @@
 ghost use Rattle.std.specs.Prelude.{◌≡◌, ℕ};
 ghost use Rattle.paragraph.specs.Calls.{is_blank, shape};
+ghost use Rattle.paragraph.specs.Example.{Refuted, Worked};
 ghost use Rattle.paragraph.specs.Law.{CuttingLaw};
 ghost use Rattle.paragraph.specs.Step.{Step};
 ghost use Rattle.paragraph.specs.Told.{inputs_of, memory, shape_left, shape_told};
@@ -22,6 +23,8 @@ impl Blank {
     pub fn new(number: u32) -> Blank
         ensures number { result.number ≡ number }
         ensures law { CuttingLaw }
+        ensures worked { Worked }
+        ensures refuted { Refuted }
     {
         Blank { number }
     }
