@@ -1,0 +1,4 @@
+mod Items
+mod Numbered
+mod StripLast
+mod Words

@@ -1,0 +1,6 @@
+pub mod Errors
+pub mod Items
+pub mod Number
+pub mod Pairs
+pub mod Script
+pub mod Text
