@@ -132,11 +132,18 @@ impl<'a> Run<'a> {
         let len = self.len();
         let Run { slots, front, back } = self;
         move_gap(slots, front, back, len);
-        slots[len..].fill(Glyph {
-            glyph: 0,
-            cluster: 0,
-        });
+        clear(&mut slots[len..]);
     }
+}
+
+// Leaves no glyph in the memory of a run.
+pub fn clear(slots: &mut [Glyph])
+    ensures { slots.new ≡ replicate (length slots.old) blank }
+{
+    slots.fill(Glyph {
+        glyph: 0,
+        cluster: 0,
+    });
 }
 
 // Moves the gap from `front` to `at`, and tells where it ends then.

@@ -1,0 +1,23 @@
+use Rattle.std.proofs.Common.{◌≡◌, length}
+use Rattle.candidates.specs.LookupOf.{lookup_of}
+use Rattle.editing.specs.Contents.{glyphs_of, room_of}
+use Rattle.gsub.specs.Meaning.{gsub_means}
+use Rattle.model.specs.declared.Entry.{Entry}
+use Rattle.model.specs.Shaping.{back_pass}
+use Rattle.shaping.specs.Attempts.{inputs_of}
+use Rattle.shaping.specs.Work.{Idle, Lent, state_of}
+use Rattle.shaping.proofs.shape.Inputs.backward.Given as goal
+
+abbrev pub decreases-loop-i : goal.decreases-loop-i
+decreases-loop-i g l = l.i
+
+-- what comes of the glyphs before i comes of the whole
+abbrev pub invariant-loop-i : goal.invariant-loop-i
+invariant-loop-i g l =
+    let inputs = inputs_of (g.S.FontSource.means l.fn.self.source.now) l.fn.self.table.table.now l.fn.self.plan.now l.fn.self.limit (room_of l.fn.work.editing) in
+    record {
+      on : (x : Entry) → x.alternate ≡ l.alternate → lookup_of l.lookup ≡ gsub_means l.fn.self.table.table.now x.lookup
+          → back_pass inputs x (length (glyphs_of l.fn.work.editing)) (state_of l.fn.work) ≡ back_pass inputs x l.i (state_of l.work);
+      idle : Idle l.work;
+      lent : Lent l.work l.fn.work;
+    }

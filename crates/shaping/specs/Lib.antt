@@ -1,0 +1,4 @@
+pub mod Attempts
+pub mod Shape
+pub mod Work
+pub mod First
