@@ -2,7 +2,6 @@
 use Rattle.std.proofs.Common.{◌≡◌, ◌==◌, ℕ, Bool, false, List, [], ◌∷◌, length, cond, refl, sym, ap, ◌∙◌, arith}
 use Rattle.std.specs.List.{position_or_len, before_first, list_any, slice_split}
 use Rattle.std.specs.Str.Parse.{digits_value}
-use Rattle.model.specs.declared.Entry.{Entry}
 use Rattle.parsing.specs.Items.{items_in, entry_in, before_equals, after_equals, has_equals}
 use Rattle.std.proofs.lemmas.List.Folds.{list_any_none}
 use Rattle.std.proofs.lemmas.List.Sums.{fails_before_first}

@@ -1,5 +1,5 @@
 -- A list of three, and what a value says.
-use Rattle.std.proofs.Common.{◌≡◌, ℕ, List, [], ◌∷◌, Option, None, Some, IfSome, map, length, get_or, refl, arith}
+use Rattle.std.proofs.Common.{◌≡◌, List, [], ◌∷◌, Option, None, Some, IfSome, map, length, get_or, refl, arith}
 
 pub three : {X Y : Type 0} (f : X → Y) (xs : List X) (d : X) → length xs ≡ 3 → map f xs ≡ f (get_or xs 0 d) ∷ f (get_or xs 1 d) ∷ f (get_or xs 2 d) ∷ []
 three f [] d e = cc

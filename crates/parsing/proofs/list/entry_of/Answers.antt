@@ -1,4 +1,4 @@
-use Rattle.std.proofs.Common.{◌≡◌, ◌==◌, Bool, false, None, sym, subst, arith}
+use Rattle.std.proofs.Common.{◌≡◌, ◌==◌, false, None, sym, subst, arith}
 use Rattle.std.proofs.lemmas.Str.Pattern.{split_once_first}
 use Rattle.parsing.specs.Number.{IsShort}
 use Rattle.parsing.specs.Items.{before_equals, has_equals}

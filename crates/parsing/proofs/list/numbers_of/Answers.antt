@@ -1,8 +1,7 @@
-use Rattle.std.proofs.Common.{◌≡◌, ◌==◌, List, ℕ, Bor, map, [], ◌∷◌, subst, ap, sym, ◌∙◌, lit<}
-use Rattle.std.specs.List.{AllByRecursion, slice_split}
+use Rattle.std.proofs.Common.{map, subst, ap, sym, ◌∙◌, lit<}
+use Rattle.std.specs.List.{AllByRecursion}
 use Rattle.std.specs.Str.Parse.{digits_value}
 use Rattle.parsing.specs.Number.{IsNumber}
-use Rattle.parsing.specs.Items.{items_in}
 use Rattle.std.proofs.lemmas.Iterator.Consumers.{YieldsList-end}
 use Rattle.std.proofs.lemmas.Iterator.Splits.{YieldsList-from_str_split}
 use Rattle.parsing.proofs.Items.{items_of_some}

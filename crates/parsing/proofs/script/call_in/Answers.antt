@@ -1,4 +1,4 @@
-use Rattle.std.proofs.Common.{◌≡◌, List, ℕ, ◌∷◌, [], Bor, IfSome, map, length, get_or, subst, sym, arith, rules}
+use Rattle.std.proofs.Common.{List, ℕ, Bor, subst, sym, arith}
 use Rattle.parsing.specs.Script.{Says}
 use Rattle.parsing.proofs.Words.{three, some_weaker}
 use Rattle.parsing.proofs.script.call_in.Goals as goal
