@@ -3,7 +3,7 @@ use Rattle.std.proofs.Common.{◌≡◌, ℕ, ◌+◌, List, [], ◌∷◌, ◌+
 use Rattle.std.specs.List.{AllByRecursion, AllZip, enumerate_from}
 use Rattle.std.proofs.lemmas.Simd.{map-map}
 
-elements : {Y : Type 0} (n : ℕ) (ys : List Y) → map (λ (p : ℕ × Y). p.1) (enumerate_from n ys) ≡ ys
+pub elements : {Y : Type 0} (n : ℕ) (ys : List Y) → map (λ (p : ℕ × Y). p.1) (enumerate_from n ys) ≡ ys
 elements n [] = refl
 elements n (y ∷ ys) = ap (λ l. y ∷ l) (elements (n + 1) ys)
 

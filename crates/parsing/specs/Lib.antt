@@ -1,4 +1,5 @@
 pub mod Errors
+pub mod Faults
 pub mod Items
 pub mod Number
 pub mod Pairs

@@ -20,3 +20,7 @@ Says words (Call.Line from to) = (a b : List ℕ) × (words ≡ codes "line" ∷
 Says words (Call.Pay slip) = (a : List ℕ) × (words ≡ codes "pay" ∷ a ∷ []) × Writes a slip
 Says words (Call.Waive slip) = (a : List ℕ) × (words ≡ codes "waive" ∷ a ∷ []) × Writes a slip
 Says words Call.Clear = words ≡ codes "clear" ∷ []
+
+-- A line that says some call.
+abbrev pub IsCall : List ℕ → Type 0
+IsCall line = (call : Call) × Says (words_in line) call

@@ -2,6 +2,7 @@ ghost use Rattle.std.specs.Prelude.{◌≡◌, map, Err, IfOk, OnOk};
 ghost use Rattle.std.specs.List.{AllByRecursion};
 ghost use Rattle.std.specs.Option.{SomeIff};
 ghost use Rattle.std.specs.Str.Parse.{digits_value};
+ghost use Rattle.parsing.specs.Errors.{bad_item};
 ghost use Rattle.parsing.specs.Number.{IsNumber};
 ghost use Rattle.parsing.specs.Items.{IsEntry, entry_in, items_in};
 
@@ -30,6 +31,7 @@ pub fn entry_of(item: &str) -> Option<Entry>
 pub fn plan_of(heap: Global, word: &str) -> Result<Vec<Entry>, ListError>
     ensures entries { OnOk result (AllByRecursion IsEntry (items_in word.now)) }
     ensures plan { IfOk result (λ plan. plan.items ≡ map entry_in (items_in word.now)) }
+    ensures not_read { result ≡ Err bad_item → ¬ (AllByRecursion IsEntry (items_in word.now)) }
 {
     let mut plan = Vec::new(heap);
     if word.is_empty() {
@@ -48,6 +50,7 @@ pub fn plan_of(heap: Global, word: &str) -> Result<Vec<Entry>, ListError>
 pub fn numbers_of(heap: Global, word: &str) -> Result<Vec<u32>, ListError>
     ensures numbers { OnOk result (AllByRecursion IsNumber (items_in word.now)) }
     ensures values { IfOk result (λ all. all.items ≡ map (digits_value 10) (items_in word.now)) }
+    ensures not_read { result ≡ Err bad_item → ¬ (AllByRecursion IsNumber (items_in word.now)) }
 {
     let mut all = Vec::new(heap);
     if word.is_empty() {

@@ -1,4 +1,5 @@
-ghost use Rattle.std.specs.Prelude.{◌≡◌, map, IfOk, OnOk, IsUtf8};
+ghost use Rattle.std.specs.Prelude.{◌≡◌, ◌<◌, length, map, IfOk, IfErr, OnOk, IsUtf8};
+ghost use Rattle.parsing.specs.Faults.{NotRead};
 ghost use Rattle.std.specs.List.{AllByRecursion};
 ghost use Rattle.std.specs.Option.{SomeIff};
 ghost use Rattle.std.specs.Str.Lines.{lines};
@@ -27,6 +28,7 @@ pub fn pairs(bytes: &[u8]) -> Result<PairTable, ReadError>
     ensures utf8 { OnOk result (IsUtf8 bytes.now) }
     ensures lines { OnOk result (AllByRecursion IsPairLine (lines (text_in bytes.now))) }
     ensures pairs { IfOk result (λ table. pairs_of table ≡ map pair_in (lines (text_in bytes.now))) }
+    ensures not_read { IfErr result (λ error. NotRead IsPairLine (32 < length (lines (text_in bytes.now))) bytes.now error) }
 {
     let text = text_of(bytes)?;
     let mut table = PairTable::new();

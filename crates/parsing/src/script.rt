@@ -1,7 +1,8 @@
-ghost use Rattle.std.specs.Prelude.{◌≡◌, ◌≢◌, ℕ, List, [], ◌∷◌, None, map, codes, IfOk, IfSome, OnOk, IsUtf8};
+ghost use Rattle.std.specs.Prelude.{◌≡◌, ◌≢◌, ℕ, List, [], ◌∷◌, None, map, codes, IfOk, IfErr, IfSome, OnOk, IsUtf8};
 ghost use Rattle.std.specs.List.{AllZip};
 ghost use Rattle.std.specs.Str.Lines.{lines};
-ghost use Rattle.parsing.specs.Script.{Says, Writes, words_in};
+ghost use Rattle.parsing.specs.Faults.{NotRead};
+ghost use Rattle.parsing.specs.Script.{IsCall, Says, Writes, words_in};
 ghost use Rattle.parsing.specs.Text.{text_in};
 
 use crate::error::ReadError;
@@ -81,6 +82,7 @@ pub fn call_of(heap: Global, line: &str) -> Result<Option<Call>, AllocError>
 pub fn script(heap: Global, bytes: &[u8]) -> Result<Vec<Call>, ReadError>
     ensures utf8 { OnOk result (IsUtf8 bytes.now) }
     ensures calls { IfOk result (λ calls. AllZip (λ line call. Says (words_in line) call) (lines (text_in bytes.now)) calls.items) }
+    ensures not_read { IfErr result (λ error. NotRead IsCall ⊥ bytes.now error) }
 {
     let text = text_of(bytes)?;
     let mut calls = Vec::new(heap);

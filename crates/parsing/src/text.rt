@@ -1,7 +1,9 @@
-ghost use Rattle.std.specs.Prelude.{◌≡◌, map, IfOk, OnOk, IfSome, OnSome, IsUtf8, encode_utf8_all};
+ghost use Rattle.std.specs.Prelude.{◌≡◌, map, IfOk, IfErr, OnOk, IsUtf8, encode_utf8_all};
 ghost use Rattle.std.specs.List.{AllByRecursion};
 ghost use Rattle.std.specs.Str.Lines.{lines};
 ghost use Rattle.std.specs.Str.Parse.{digits_value};
+ghost use Rattle.parsing.specs.Errors.{not_utf8};
+ghost use Rattle.parsing.specs.Faults.{NotRead};
 ghost use Rattle.parsing.specs.Number.{IsNumber};
 ghost use Rattle.parsing.specs.Text.{text_in};
 
@@ -13,6 +15,7 @@ use std::alloc::Global;
 pub fn text_of(bytes: &[u8]) -> Result<&str, ReadError>
     ensures utf8 { OnOk result (IsUtf8 bytes.now) }
     ensures text { IfOk result (λ text. text.now ≡ text_in bytes.now) }
+    ensures not_read { IfErr result (λ error. (error ≡ not_utf8) × ¬ (IsUtf8 bytes.now)) }
 {
     match std::str::from_utf8(bytes) {
         Ok(text) => Ok(text.strip_suffix('\n').unwrap_or(text)),
@@ -24,6 +27,7 @@ pub fn text_of(bytes: &[u8]) -> Result<&str, ReadError>
 pub fn characters(heap: Global, bytes: &[u8]) -> Result<Vec<u32>, ReadError>
     ensures utf8 { OnOk result (IsUtf8 bytes.now) }
     ensures characters { IfOk result (λ all. encode_utf8_all all.items ≡ text_in bytes.now) }
+    ensures not_read { IfErr result (λ error. NotRead (λ line. Unit) ⊥ bytes.now error) }
 {
     let text = text_of(bytes)?;
     Ok(text.chars().map(u32::from).collect(heap)?)
@@ -34,6 +38,7 @@ pub fn numbers(heap: Global, bytes: &[u8]) -> Result<Vec<u32>, ReadError>
     ensures utf8 { OnOk result (IsUtf8 bytes.now) }
     ensures numbers { OnOk result (AllByRecursion IsNumber (lines (text_in bytes.now))) }
     ensures values { IfOk result (λ all. all.items ≡ map (digits_value 10) (lines (text_in bytes.now))) }
+    ensures not_read { IfErr result (λ error. NotRead IsNumber ⊥ bytes.now error) }
 {
     let text = text_of(bytes)?;
     let mut all = Vec::new(heap);
