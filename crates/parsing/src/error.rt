@@ -5,7 +5,7 @@ use font::refusal::Refusal;
 use std::alloc::{AllocError, AllocFailed};
 
 // Why a file was not read.
-#[derive(Drop)]
+#[derive(Debug, Drop, PartialEq)]
 pub enum ReadError {
     NotUtf8,
     // A line, counted from 1, that is not what it should be.
@@ -39,7 +39,7 @@ impl<T: Drop> From<AllocFailed<T>> for ReadError {
 }
 
 // Why a word was not read as a list.
-#[derive(Drop)]
+#[derive(Debug, Drop, PartialEq)]
 pub enum ListError {
     // An item that is not what it should be.
     Item,

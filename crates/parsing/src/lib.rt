@@ -6,4 +6,6 @@ pub mod list;
 pub mod number;
 pub mod pairs;
 pub mod script;
+#[cfg(test)]
+mod tests;
 pub mod text;

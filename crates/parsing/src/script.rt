@@ -11,7 +11,7 @@ use crate::text::text_of;
 use std::alloc::{AllocError, Global};
 
 // What a line of a script asks of a paragraph.
-#[derive(Clone, Copy)]
+#[derive(Clone, Copy, Debug, PartialEq)]
 pub enum Call {
     Shape,
     Line { from: u32, to: u32 },
