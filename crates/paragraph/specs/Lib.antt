@@ -1,0 +1,5 @@
+pub mod Calls
+pub mod Step
+pub mod Law
+pub mod Told
+pub mod Example
