@@ -1,8 +1,8 @@
 #!/usr/bin/env python3
 """A second mitqorad: shapes texts and gives out their lines, by the rules in docs/.
 
-It is written from docs/ alone and shares nothing with the crates; it reads tables with the
-second checker, table_cases.py. It says what the program prints where the words of the call
+It is written from docs/ and shares nothing with the crates; it reads tables with the second
+checker, table_cases.py. It says what the program prints where the words of the call
 are right.
 
     python3 tools/paragraph.py COMMAND ..              what mitqorad COMMAND .. prints

@@ -1,7 +1,8 @@
 #!/usr/bin/env python3
 """The cases of crates/command_cases: calls of the program, the files that they read, and what they print.
 
-    python3 tools/paragraph_cases.py write               writes stdin, stdout and data/ of crates/command_cases
+    python3 tools/paragraph_cases.py write               writes stdin, stdout and data/ of crates/command_cases,
+                                                         and the sample of crates/mitqorad/data
     python3 tools/paragraph_cases.py try PROGRAM N SEED  N random calls of the program beside the second one
 
 Answers are those of the second mitqorad, paragraph.py, but for calls whose words are wrong or whose files
@@ -17,7 +18,8 @@ import tempfile
 from paragraph import case, said_of
 from table_cases import cov, laid_out, lookup, ranges, table_of
 
-FOLDER = os.path.join(os.path.dirname(os.path.abspath(__file__)), "..", "crates", "command_cases")
+CRATES = os.path.join(os.path.dirname(os.path.abspath(__file__)), "..", "crates")
+FOLDER = os.path.join(CRATES, "command_cases")
 
 
 def packed(root):
@@ -111,15 +113,38 @@ ABC = "--label abc.label"
 ABC_TABLES = "--cmap abc.cmap --hmtx abc.hmtx --metrics 9 --gdef abc.gdef"
 
 
+# A sample for the demo: e and an acute join into one glyph, f and i join past marks, and a slash between figures makes
+# a fraction of them. Its glyphs, by number: space, slash, 1, 2, a, c, e, f, i, n, acute; fi, e with acute; 1 and 2 as
+# numerators, as denominators, and the fraction's bar.
+
+(SLASH, ONE, TWO, SMALL_E, SMALL_F, SMALL_I, ACUTE, JOINED_FI, E_ACUTE, ONE_ABOVE, TWO_ABOVE, ONE_BELOW, TWO_BELOW,
+ BAR) = 2, 3, 4, 7, 8, 9, 11, 12, 13, 14, 15, 16, 17, 18
+WIDTHS = (250, 280, 500, 500, 440, 440, 440, 330, 280, 560, 0, 560, 440, 320, 320, 320, 320, 170)
+SAMPLE = {
+    "word.label": label(*((ord(character), glyph, 3 if glyph == ACUTE else 1, 0, WIDTHS[glyph - 1])
+                          for glyph, character in enumerate(" /12acefin\u0301", 1)),
+                        *((0, glyph, 1, 0, WIDTHS[glyph - 1]) for glyph in range(12, 19))),
+    "word.gsub": packed(table_of(
+        lookup(4, of_sets({SMALL_E: listed(ligature(E_ACUTE, ACUTE))})),
+        lookup(4, of_sets({SMALL_F: listed(ligature(JOINED_FI, SMALL_I))}), flag=8),
+        lookup(6, covered_chain([], [cov(ONE, TWO), cov(SLASH), cov(ONE, TWO)], [], (0, 3), (1, 4), (2, 5))),
+        lookup(1, single({ONE: ONE_ABOVE, TWO: TWO_ABOVE})), lookup(1, single({SLASH: BAR})),
+        lookup(1, single({ONE: ONE_BELOW, TWO: TWO_BELOW})))),
+    "word.txt": "cafe\u0301 f\u0301in 1/2\n".encode(),
+}
+
+
 # Cases: a call, and what it prints where that is said by hand
 
-def fits(shape):
-    return shape if isinstance(shape, list) else packed(shape)
+def write_files(files, folder):
+    for name, content in files.items():
+        with open(os.path.join(folder, name), "wb") as file:
+            file.write(content)
 
 
 class Cases:
     def __init__(self):
-        self.files, self.lines = dict(FILES), []
+        self.files, self.lines = FILES | SAMPLE, []
 
     def file(self, name, content):
         assert self.files.setdefault(name, content) == content, name
@@ -134,11 +159,6 @@ class Cases:
     def call(self, line, error=None):
         """An error is what the second mitqorad does not say."""
         self.lines.append((line, None if error is None else f"$ {line}\nerror: {error}\nstatus: 1"))
-
-    def written(self, folder):
-        for name, content in self.files.items():
-            with open(os.path.join(folder, name), "wb") as file:
-                file.write(content)
 
     def answers(self, folder):
         return [case(line, folder) if answer is None else answer for line, answer in self.lines]
@@ -274,6 +294,7 @@ def shape_cases(cases):
     shape("moved-backward", "0", "aaab", moved(8, reverse([], {A: B}, [cov(B)]), reverse([], {B: C}, [])))
 
     # Sources of text and of glyphs.
+    cases.call("shape --label word.label --gsub word.gsub --plan 0,1,2 word.txt")
     cases.call("shape --label fi.label --gsub fi.gsub --plan 0 - < fix.txt")
     cases.call("shape --label fi.label --gsub - --plan 0 fix.txt < fi.gsub")
     cases.file("codes.txt", b"102\n105\n4294967295\n0\n120\n")
@@ -502,7 +523,8 @@ def write():
     data = os.path.join(FOLDER, "data")
     shutil.rmtree(data, ignore_errors=True)
     os.makedirs(data)
-    cases.written(data)
+    write_files(cases.files, data)
+    write_files(SAMPLE, os.path.join(CRATES, "mitqorad", "data"))
     with open(os.path.join(FOLDER, "stdin"), "w") as file:
         file.writelines(f"{line}\n" for line, _ in cases.lines)
     with open(os.path.join(FOLDER, "stdout"), "w") as file:
@@ -516,7 +538,7 @@ def try_random(program, times, seed, kinds):
         for number in range(times):
             cases = Cases()
             random_call(maker, cases, "random", maker.random.choice(kinds))
-            cases.written(folder)
+            write_files(cases.files, folder)
             words = ["" if word == "''" else word for word in cases.lines[0][0].split()]
             wanted = said_of(words, folder)
             ran = subprocess.run([os.path.abspath(program), *words], cwd=folder, capture_output=True, text=True)
