@@ -1,12 +1,12 @@
 -- By computation.
-use Rattle.std.proofs.Common.{◌≡◌, ℕ, ◌+◌, List, [], ◌∷◌, map, length, sum_by, refl, sym, ap, ◌∙◌, inl, inr, arith}
+use Rattle.std.proofs.Common.{◌≡◌, ℕ, List, [], ◌∷◌, map, length, sum_by, refl, ap, ◌∙◌, inl, arith}
 use Rattle.gsub.specs.Rules.{array_at, counted_array}
 use Rattle.model.specs.declared.Glyph.{Glyph}
 use Rattle.model.specs.Examples.{◌∶◌}
 use Rattle.model.specs.Laws.{raise}
-use Rattle.model.specs.Shaping.{Outcome, Shaped as ShapedText, ends, hits, misses, refused, shaped}
+use Rattle.model.specs.Shaping.{Shaped as ShapedText, ends, hits, misses, refused, shaped}
 use Rattle.model.proofs.Outcomes.{at_most_one}
-use Rattle.paragraph.specs.Calls.{Comes, clear, denied, done, gives, is_blank, is_shaped, kept, line, owes, paid, pay, returned, shape, unpaid, waive}
+use Rattle.paragraph.specs.Calls.{clear, denied, done, gives, is_blank, is_shaped, kept, line, owes, paid, pay, returned, shape, unpaid, waive}
 use Rattle.paragraph.specs.Step.{Step}
 use Rattle.paragraph.specs.Law.{EachAlone, History, Outlasts, Right, ShapedAlone, made, next}
 use Rattle.paragraph.specs.Example.{Refuted, Worked, calls, course, fix, fresh, full, no_room, paragraph, room_for_two, slip, untied}

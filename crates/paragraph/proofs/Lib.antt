@@ -4,3 +4,4 @@ pub mod Kept
 pub mod Sound
 pub mod Steps
 pub mod Example
+pub mod Performing

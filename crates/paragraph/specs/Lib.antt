@@ -3,3 +3,5 @@ pub mod Step
 pub mod Law
 pub mod Told
 pub mod Example
+pub mod Performs
+pub mod SaidBy

@@ -2,8 +2,10 @@
 #![tactic(auto)]
 
 pub mod blank;
+pub mod calls;
 mod fill;
 pub mod line;
+pub mod perform;
 pub mod refusal;
 pub mod shaped;
 pub mod slip;
