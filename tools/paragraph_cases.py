@@ -595,7 +595,7 @@ def answered(cases):
 def random_cases(cases):
     """Of lines and lists of calls, those where a slip is paid."""
     maker = Maker(20)
-    for kind, times, wanted in (("shape", 40, ""), ("lines", 12, " paid "), ("calls", 12, "\npaid ")):
+    for kind, times, wanted in (("shape", 20, ""), ("lines", 10, " paid "), ("calls", 12, "\npaid ")):
         number = 0
         while number < times:
             tried = Cases()
