@@ -635,9 +635,12 @@ def said_of(words, folder=""):
         return "", f"{error}\n", 1
 
 
+def words_of(line):
+    return ["" if word == "''" else word for word in line.split()]
+
+
 def case(line, folder):
-    words = ["" if word == "''" else word for word in line.split()]
-    output, error, status = said_of(words, folder)
+    output, error, status = said_of(words_of(line), folder)
     return f"$ {line}\n{output}{''.join(f'error: {each}' for each in error.splitlines(True))}status: {status}"
 
 

@@ -15,7 +15,7 @@ import subprocess
 import sys
 import tempfile
 
-from paragraph import case, said_of
+from paragraph import case, said_of, words_of
 from table_cases import cov, laid_out, lookup, ranges, table_of
 
 CRATES = os.path.join(os.path.dirname(os.path.abspath(__file__)), "..", "crates")
@@ -313,6 +313,74 @@ def shape_cases(cases):
     cases.call("check --gsub ligatures.gsub --gdef abc.gdef")
 
 
+def lines_cases(cases):
+    def lines(table, breaks, texts, font=FI_FONT, options=""):
+        for text in texts.split(" "):
+            breaking = f"--breaks {breaks}" if breaks else ""
+            file = text if text.endswith(".txt") else cases.text(text.replace("''", ""))
+            cases.call(" ".join(f"lines {font} --gsub {table}.gsub --plan 0 {options} {breaking} {file}".split()))
+
+    cases.call("lines --label word.label --gsub word.gsub --plan 0,1,2 --breaks 6,11 word.txt")
+    cases.call("lines --label word.label --gsub word.gsub --plan 0,1,2 --breaks 4,6,8,12 word.txt")
+    for breaks in ("", "''", "1", "2", "1,2", "0", "3", "1,1", "2,1", "4", "2,4294967295"):
+        lines("fi", breaks, "fix")
+    lines("fi", "", "''")
+    lines("fi", "1", "''")
+    lines("fi", "0", "''")
+    lines("fi", "1", "fix", options="--limit 0")
+    lines("fi", "1", "fix", options="--room 2")
+    lines("fi", "2,1", "fix", options="--limit 0")
+    lines("fi-past-marks", "2,3", "fmmix")
+    lines("i-after-f", "1", "fi", options="--limit 1")
+    lines("i-after-f", "1", "fi", options="--limit 2")
+    cases.file("room.gsub", packed(table_of(
+        lookup(6, of_sets({2: listed(chain([1], [], []), chain([], [], [], (0, 1)))})), lookup(2, of_sets({2: listed(5, 5, 5)})))))
+    lines("room", "1", "fi", options="--room 2")
+    lines("room", "1", "fi", options="--room 3")
+    lines("x-twice", "1,2", "fxi")
+    lines("before-i", "1,2", "iii")
+    lines("chain-3", "1,3,4", "habcd", font=ABC)
+    lines("joined", "1,2,3,4,5", "abcabc", font=ABC)
+    lines("joined", "3", "abcabc", font=ABC_TABLES)
+    lines("fi", "0,1,9", "fix")
+
+
+def calls_cases(cases):
+    def calls(name, table, text, script, font=FI_FONT, options="", plan="0"):
+        file = cases.file(f"{name}.script", script.replace("; ", "\n").encode() + b"\n")
+        cases.call(" ".join(f"calls {font} --gsub {table}.gsub --plan {plan} {options} {cases.text(text)} {file}".split()))
+
+    calls("given-out", "fi", "fix", "shape; line 0 2; line 0 1; pay 1; line 2 3; line 0 3; clear")
+    calls("blank", "fi", "fix", "line 0 1; pay 1; waive 1; clear; shape; shape; clear; clear; shape")
+    calls("numbers-go-on", "fi", "fix", "shape; line 0 1; line 1 3; waive 2; pay 2; waive 2; pay 1; pay 1; clear; shape; line 1 2; pay 2; pay 3; clear")
+    calls("owed", "fi", "fix", "shape; line 0 1; clear; line 1 2; waive 1; clear; shape; waive 2; clear; line 0 1")
+    calls("left-over", "fi", "fix", "shape; line 0 1; line 0 1; line 1 2; pay 2")
+    calls("no-such-line", "fi", "fix", "line 1 1; shape; line 0 0; line 2 2; line 2 1; line 0 4; line 3 3; line 4294967295 4294967295; line 0 4294967295; line 0 3")
+    calls("hit-limit", "fi", "fix", "shape; line 0 1; shape; clear", options="--limit 0")
+    calls("no-room", "fi", "fix", "shape; line 0 1", options="--room 2")
+    calls("no-room-later", "x-twice", "xx", "shape; shape", options="--room 3")
+    calls("wrong-plan", "fi", "fix", "shape; line 0 1; shape", plan="0,0")
+    calls("wrong-size", "fi", "fix", "shape; shape", options="--limit 1000001")
+    calls("pay-refused-7", "i-after-f", "fi", "shape; line 1 2; pay 1; pay 1; clear; waive 1; clear; shape; line 1 2; line 0 1; pay 3", options="--limit 1")
+    calls("pay-refused-8", "room", "fi", "shape; line 1 2; line 0 1; pay 1; pay 2; clear; waive 1; clear", options="--room 2")
+    calls("nothing", "fi", "", "shape; line 0 0; line 0 1; clear; shape; line 1 0")
+    calls("no-slip", "fi", "fix", "shape; pay 0; waive 0; pay 1; waive 4294967295; line 0 1; pay 0; pay 01; pay 1")
+    calls("past-marks", "fi-past-marks", "fmmix", "shape; line 0 4; line 1 4; line 2 3; pay 1; pay 2; line 0 5; line 4 5")
+    calls("grown", "x-twice", "fxi", "shape; line 0 1; line 1 2; line 0 3; line 2 3; clear")
+    calls("from-the-end", "before-i", "iii", "shape; line 0 1; line 1 3; line 2 3; pay 1; pay 2; pay 3; clear")
+    calls("nested", "joined", "abcabc", "shape; line 0 3; line 3 6; line 1 2; line 2 3; line 0 1; pay 1; pay 2; pay 3", font=ABC)
+    cases.file("empty.script", b"")
+    cases.file("no-feed.script", b"shape\r\nline 0 2\r\nclear")
+    for name in ("empty", "no-feed"):
+        cases.call(f"calls --label fi.label --gsub fi.gsub --plan 0 fix.txt {name}.script")
+    cases.call("calls --label fi.label --gsub fi.gsub --plan 0 fix.txt - < no-feed.script")
+    for number, (line, at) in enumerate((("shape\nshapes", 2), ("line 0", 1), ("line 0 1 2", 1), ("line  0 1", 1), ("shape ", 1), (" shape", 1), ("pay", 1),
+                                         ("pay x", 1), ("pay +1", 1), ("waive -1", 1), ("clear 1", 1), ("pay 4294967296", 1), ("shape\n\nclear", 2), ("SHAPE", 1)), 1):
+        name = cases.file(f"bad-{number}.script", line.encode() + b"\n")
+        cases.call(f"calls --label fi.label --gsub fi.gsub --plan 0 fix.txt {name}",
+                   f"mitqorad: line {at} of {name} is not a call: shape, line A B, pay K, waive K or clear")
+
+
 def refused_cases(cases):
     mean = " (mitqorad --help says more)"
 
@@ -349,6 +417,14 @@ def refused_cases(cases):
     usage("check --gdef abc.gdef", "check needs --gsub FILE")
     usage("check fi.gsub", "check takes tables by --gsub and --gdef, and not fi.gsub")
     usage("break fi.gsub", "unknown command break")
+    for breaks in ("1,", ",1", "a", "1;2", "-1", "+1", "4294967296"):
+        usage(f"lines --label fi.label --gsub fi.gsub --plan 0 --breaks {breaks} fix.txt", f"--breaks takes places parted by commas, and not {breaks}")
+    usage("lines --label fi.label --gsub fi.gsub --plan 0 --breaks", "the last option has no places")
+    usage("lines --label fi.label --gsub fi.gsub fix.txt", "lines needs --plan LOOKUPS")
+    usage("calls --label fi.label --gsub fi.gsub --plan 0 fix.txt", "calls needs a script")
+    usage("calls --label fi.label --gsub fi.gsub --plan 0", "calls needs a text")
+    usage("calls --label fi.label --gsub fi.gsub --plan 0 fix.txt empty.script empty.script", "more than one text: empty.script")
+    usage("calls --label fi.label --gsub fi.gsub --plan 0 --breaks 1 fix.txt empty.script", "unknown option --breaks")
     usage("''", "unknown command ")
 
     def unread(line, error):
@@ -509,15 +585,32 @@ def random_call(maker, cases, name, kind):
     cases.call(line)
 
 
+def answered(cases):
+    """The answer of the second mitqorad to the last call."""
+    with tempfile.TemporaryDirectory() as folder:
+        write_files(cases.files, folder)
+        return said_of(words_of(cases.lines[-1][0]), folder)
+
+
 def random_cases(cases):
+    """Of lines and lists of calls, those where a slip is paid."""
     maker = Maker(20)
-    for number in range(40):
-        random_call(maker, cases, f"random-{number}", "shape")
+    for kind, times, wanted in (("shape", 20, ""), ("lines", 10, " paid "), ("calls", 12, "\npaid ")):
+        number = 0
+        while number < times:
+            tried = Cases()
+            random_call(maker, tried, f"random-{kind}-{number}", kind)
+            if wanted in answered(tried)[0]:
+                cases.files |= tried.files
+                cases.lines += tried.lines
+                number += 1
 
 
 def write():
     cases = Cases()
     shape_cases(cases)
+    lines_cases(cases)
+    calls_cases(cases)
     refused_cases(cases)
     random_cases(cases)
     data = os.path.join(FOLDER, "data")
@@ -539,7 +632,7 @@ def try_random(program, times, seed, kinds):
             cases = Cases()
             random_call(maker, cases, "random", maker.random.choice(kinds))
             write_files(cases.files, folder)
-            words = ["" if word == "''" else word for word in cases.lines[0][0].split()]
+            words = words_of(cases.lines[0][0])
             wanted = said_of(words, folder)
             ran = subprocess.run([os.path.abspath(program), *words], cwd=folder, capture_output=True, text=True)
             kind = wanted[1].split(":")[0] or words[0]

@@ -1,4 +1,5 @@
 use crate::asked::{Command, Task, Text, TextOptions};
+use crate::calls::calls;
 use crate::check::check;
 use crate::content::Content;
 use crate::failure::Failure;
@@ -8,6 +9,7 @@ use crate::fonts::{TableBytes, read_label};
 use crate::glyphs::glyphs;
 use crate::help::HELP;
 use crate::input::Input;
+use crate::lines::lines;
 use crate::shape::shape;
 use font::pairs::PairTable;
 use font::source::MeasuredSource;
@@ -39,14 +41,8 @@ fn over<F: Files, S: MeasuredSource + Drop>(
     match asked.task {
         Task::Glyphs => glyphs(files.heap(), &source, text.as_slice()),
         Task::Shape(shaping) => shape(files, &source, text.as_slice(), shaping),
-        Task::Lines {
-            shaping: _,
-            breaks: _,
-        } => Err(Failure::NotBuilt("lines")),
-        Task::Calls {
-            shaping: _,
-            script: _,
-        } => Err(Failure::NotBuilt("calls")),
+        Task::Lines { shaping, breaks } => lines(files, &source, text.as_slice(), shaping, breaks),
+        Task::Calls { shaping, script } => calls(files, &source, text.as_slice(), shaping, script),
     }
 }
 

@@ -2,8 +2,10 @@ use crate::failure::Failure;
 use crate::files::Files;
 use crate::input::Input;
 use font::pairs::PairTable;
+use paragraph::calls::Call;
 use parsing::error::ReadError;
 use parsing::pairs::pairs;
+use parsing::script::script;
 use parsing::text::{characters, numbers};
 use std::alloc::Global;
 
@@ -28,7 +30,7 @@ impl<'a> Content<'a> {
         let sentence = match error {
             ReadError::NotUtf8 => format!(in heap; "{input} is not UTF-8"),
             ReadError::Line(line) => format!(in heap; "line {line} of {input} is not {should_be}"),
-            ReadError::Refused(refusal) => return Failure::Refused(refusal),
+            ReadError::Refused(refusal) => return Failure::Source(refusal),
             ReadError::Memory => return Failure::Memory,
         };
         match sentence {
@@ -55,5 +57,12 @@ impl<'a> Content<'a> {
     pub fn pairs(&self, heap: Global) -> Result<PairTable, Failure> {
         let should_be = "two characters' numbers, parted by a tab";
         pairs(self.bytes.as_slice()).map_err(|error| self.failure(heap, error, should_be))
+    }
+
+    // The calls of a script, one a line.
+    pub fn calls(&self, heap: Global) -> Result<Vec<Call>, Failure> {
+        let should_be = "a call: shape, line A B, pay K, waive K or clear";
+        script(heap, self.bytes.as_slice())
+            .map_err(|error| self.failure(heap, error, should_be))
     }
 }

@@ -1,7 +1,10 @@
+use crate::meaning::{fault_meaning, refusal_meaning, source_meaning};
 use crate::usage::UsageError;
-use font::refusal::{LabelField, Refusal};
+use font::refusal::Refusal as SourceRefusal;
 use gsub::check::CheckError;
-use layout::fault::{Rule, StructureFault, TableFault};
+use layout::fault::TableFault;
+use paragraph::refusal::Refusal;
+use pick::refusal::Refusal as PickRefusal;
 use shaping::refusal::Refusal as ShapingRefusal;
 use std::alloc::{AllocError, AllocFailed, Global};
 use std::{fmt, io};
@@ -9,15 +12,16 @@ use std::{fmt, io};
 // Why the program ends with status 1: a line for standard error.
 #[derive(Drop)]
 pub enum Failure {
-    // The library refused, with a number.
+    // A source refused, with a number.
+    Source(SourceRefusal),
+    // Shaping or a paragraph refused, with a number.
     Refused(Refusal),
-    NotShaped(ShapingRefusal),
-    // A table of the font has a fault.
+    // A table has a fault.
     Fault(TableFault),
     // The words of the call are off, or a file can't be read or isn't what it should be.
     Sentence(String),
-    // A command that there is none of yet.
-    NotBuilt(&'static str),
+    // A call of a paragraph was answered as none of its kind is.
+    Unanswered,
     Memory,
     Output(io::Error),
 }
@@ -32,15 +36,24 @@ impl Failure {
     }
 }
 
-impl From<ShapingRefusal> for Failure {
-    fn from(refusal: ShapingRefusal) -> Failure {
-        Failure::NotShaped(refusal)
+impl From<SourceRefusal> for Failure {
+    fn from(refusal: SourceRefusal) -> Failure {
+        Failure::Source(refusal)
     }
 }
 
-impl From<Refusal> for Failure {
-    fn from(refusal: Refusal) -> Failure {
-        Failure::Refused(refusal)
+impl From<ShapingRefusal> for Failure {
+    fn from(refusal: ShapingRefusal) -> Failure {
+        Failure::Refused(Refusal::from(refusal))
+    }
+}
+
+impl From<PickRefusal> for Failure {
+    fn from(refusal: PickRefusal) -> Failure {
+        match refusal {
+            PickRefusal::Ends => Failure::Refused(Refusal::Ends),
+            PickRefusal::Room => Failure::Refused(Refusal::Room),
+        }
     }
 }
 
@@ -77,71 +90,16 @@ impl From<io::Error> for Failure {
     }
 }
 
-// The program's own words for a refusal and a fault; what the library prints of them are numbers.
-// What a label file's field should have been.
-fn field_meaning(field: LabelField) -> &'static str {
-    match field {
-        LabelField::Character => "not a character from 0 to 1114111 and a tab, or a 257th row",
-        LabelField::Glyph => "not a glyph from 0 to 65535, above the last row's, and a tab",
-        LabelField::Class => "not a class from 0 to 4 and a tab",
-        LabelField::MarkClass => "not a mark class from 0 to 65535 and a tab",
-        LabelField::Advance => "not an advance from 0 to 65535 and a line feed",
-    }
-}
-
-fn refusal_meaning(refusal: &Refusal) -> &'static str {
-    match refusal {
-        Refusal::RunTooLong => "more than 65535 characters",
-        Refusal::Label { line: _, field } => field_meaning(*field),
-        Refusal::TooManyPairs => "more than 32 stand-in pairs",
-    }
-}
-
-fn shaping_meaning(refusal: ShapingRefusal) -> &'static str {
-    match refusal {
-        ShapingRefusal::Plan =>
-            "the plan has more than 64 entries, does not rise, names a missing lookup, or has an alternate value of 0",
-        ShapingRefusal::Size => "a text or room over 65535, or a hit limit over 1000000",
-        ShapingRefusal::HitLimit => "hit limit spent",
-        ShapingRefusal::Room => "the glyphs do not fit the room",
-    }
-}
-
-// What a structure's rule asks, where it is broken.
-fn rule_meaning(rule: Rule) -> &'static str {
-    match rule {
-        Rule::Unknown =>
-            "unknown version, format or type, or an offset of 0 where a structure must be",
-        Rule::Order => "entries do not rise, a range ends before it begins, or a wrong start index",
-        Rule::Bounds => "a count, length or glyph number beyond its bounds",
-        Rule::Missing => "no such lookup",
-    }
-}
-
-fn fault_meaning(fault: &TableFault) -> &'static str {
-    match fault {
-        TableFault::TooLong(_) => rule_meaning(Rule::Bounds),
-        TableFault::Structure(placed) => match placed.fault {
-            StructureFault::PastEnd(_) => "the structure ends past its table",
-            StructureFault::Broken {
-                rule,
-                start: _,
-                at: _,
-            } => rule_meaning(rule),
-        },
-    }
-}
-
 impl fmt::Display for Failure {
     fn fmt<W: fmt::Write>(&self, f: &mut fmt::Formatter<W>) -> fmt::Result {
         match self {
-            Failure::Refused(refusal) => {
-                let meaning = refusal_meaning(refusal);
+            Failure::Source(refusal) => {
+                let meaning = source_meaning(refusal);
                 write!(f, "{refusal}: {meaning}")
             }
-            Failure::NotShaped(refusal) => {
+            Failure::Refused(refusal) => {
                 let number = refusal.number();
-                let meaning = shaping_meaning(*refusal);
+                let meaning = refusal_meaning(*refusal);
                 write!(f, "refused {number}: {meaning}")
             }
             Failure::Fault(fault) => {
@@ -149,7 +107,7 @@ impl fmt::Display for Failure {
                 write!(f, "{fault}: {meaning}")
             }
             Failure::Sentence(sentence) => write!(f, "mitqorad: {sentence}"),
-            Failure::NotBuilt(command) => write!(f, "mitqorad: {command}: not built yet"),
+            Failure::Unanswered => write!(f, "mitqorad: a call of the paragraph was not answered"),
             Failure::Memory => write!(f, "mitqorad: out of memory"),
             Failure::Output(error) => write!(f, "mitqorad: cannot write: {error}"),
         }

@@ -12,8 +12,10 @@ FONT:  --label FILE [--stand-in FILE]
 glyphs   prints the glyph of each character of TEXT, and the width of them all
 check    says whether a GSUB table, and then a GDEF table, is accepted, or its first fault
 shape    prints the glyphs of TEXT as GLYPH:CLUSTER, its break marks, hits and width
-lines    not built yet: is to give out the lines of TEXT, shaped once
-calls    not built yet: is to do what the lines of SCRIPT ask of a paragraph of TEXT
+lines    prints the lines of TEXT, shaped once: each kept as it is there, or paid for by
+         shaping it alone, where the text may not be broken at its ends
+calls    prints what a paragraph of TEXT answers to the lines of SCRIPT: shape, line A B,
+         pay K, waive K, clear
 
   --label FILE      the font: lines of character, glyph, class, mark class and advance,
                     decimal and parted by tabs

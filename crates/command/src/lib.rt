@@ -3,6 +3,7 @@
 
 pub mod answer;
 mod asked;
+mod calls;
 mod check;
 mod content;
 pub mod failure;
@@ -12,6 +13,9 @@ mod fonts;
 mod glyphs;
 mod help;
 mod input;
+mod lines;
+mod meaning;
 mod options;
+mod setup;
 mod shape;
 mod usage;

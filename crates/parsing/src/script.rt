@@ -8,18 +8,8 @@ ghost use Rattle.parsing.specs.Text.{text_in};
 use crate::error::ReadError;
 use crate::number::number_of;
 use crate::text::text_of;
+use paragraph::calls::Call;
 use std::alloc::{AllocError, Global};
-
-// What a line of a script asks of a paragraph.
-#[derive(Clone, Copy, Debug, PartialEq)]
-pub enum Call {
-    Shape,
-    Line { from: u32, to: u32 },
-    // Slips by the number under which they were given out.
-    Pay(u32),
-    Waive(u32),
-    Clear,
-}
 
 // The call of a name that stands alone.
 fn bare_call(name: &str) -> Option<Call>
@@ -34,24 +24,24 @@ fn bare_call(name: &str) -> Option<Call>
 }
 
 // The call of a name with a slip's number.
-fn slip_call(name: &str, slip: u32) -> Option<Call>
-    ensures says { IfSome result (λ call. (a : List ℕ) → Writes a slip → Says (name.now ∷ a ∷ []) call) }
+fn slip_call(name: &str, slip: usize) -> Option<Call>
+    ensures says { IfSome result (λ call. (word : List ℕ) → Writes word slip → Says (name.now ∷ word ∷ []) call) }
     ensures none { result ≡ None → (name.now ≢ codes "pay") × (name.now ≢ codes "waive") }
 {
     match name {
-        "pay" => Some(Call::Pay(slip)),
-        "waive" => Some(Call::Waive(slip)),
+        "pay" => Some(Call::Pay { slip }),
+        "waive" => Some(Call::Waive { slip }),
         _ => None,
     }
 }
 
 // The call of a name with two places.
-fn line_call(name: &str, from: u32, to: u32) -> Option<Call>
-    ensures says { IfSome result (λ call. (a b : List ℕ) → Writes a from → Writes b to → Says (name.now ∷ a ∷ b ∷ []) call) }
+fn line_call(name: &str, a: u32, b: u32) -> Option<Call>
+    ensures says { IfSome result (λ call. (from to : List ℕ) → Writes from a → Writes to b → Says (name.now ∷ from ∷ to ∷ []) call) }
     ensures none { result ≡ None → name.now ≢ codes "line" }
 {
     match name {
-        "line" => Some(Call::Line { from, to }),
+        "line" => Some(Call::Line { a, b }),
         _ => None,
     }
 }
@@ -63,7 +53,7 @@ fn call_in(words: &[&str]) -> Option<Call>
 {
     match words {
         [name] => bare_call(name),
-        [name, slip] => slip_call(name, number_of(slip)?),
+        [name, slip] => slip_call(name, number_of(slip)? as usize),
         [name, from, to] => line_call(name, number_of(from)?, number_of(to)?),
         _ => None,
     }

@@ -1,8 +1,9 @@
 use crate::error::{ListError, ReadError};
 use crate::list::{numbers_of, plan_of};
 use crate::number::number_of;
-use crate::script::{Call, script};
+use crate::script::script;
 use crate::text::{characters, numbers};
+use paragraph::calls::Call;
 use std::test::Fail;
 
 #[test]
@@ -52,9 +53,9 @@ fn a_script(rt: HostRuntime) -> Result<(), Fail> {
         calls.as_slice(),
         [
             Call::Shape,
-            Call::Line { from: 0, to: 12 },
-            Call::Pay(1),
-            Call::Waive(2),
+            Call::Line { a: 0, b: 12 },
+            Call::Pay { slip: 1 },
+            Call::Waive { slip: 2 },
             Call::Clear,
         ]
         .as_slice()

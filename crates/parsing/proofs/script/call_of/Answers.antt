@@ -2,7 +2,7 @@ use Rattle.std.proofs.Common.{◌≡◌, Ok, None, List, ℕ, Bor, IfSome, map, 
 use Rattle.std.proofs.lemmas.Iterator.Consumers.{map_from_collect}
 use Rattle.std.proofs.lemmas.Iterator.Splits.{YieldsList-from_str_split}
 use Rattle.parsing.specs.Script.{Says}
-use Rattle.parsing.specs.declared.script.Call.{Call}
+use Rattle.paragraph.specs.declared.calls.Call.{Call}
 use Rattle.parsing.proofs.script.call_of.Goals as goal
 
 pub returns-clause-says : goal.returns-clause-says

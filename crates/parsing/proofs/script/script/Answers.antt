@@ -5,7 +5,7 @@ use Rattle.std.proofs.lemmas.Iterator.Consumers.{YieldsList-end, YieldsList-so_f
 use Rattle.std.proofs.lemmas.Iterator.Splits.{YieldsList-from_lines}
 use Rattle.std.proofs.lemmas.List.{map-append}
 use Rattle.parsing.specs.Script.{IsCall, Says, words_in}
-use Rattle.parsing.specs.declared.script.Call.{Call}
+use Rattle.paragraph.specs.declared.calls.Call.{Call}
 use Rattle.parsing.specs.Faults.{IsFirstBad}
 use Rattle.parsing.proofs.Places.{first_bad}
 use Rattle.parsing.proofs.Numbered.{enumerated, one_pair_more}
