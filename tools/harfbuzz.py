@@ -61,7 +61,6 @@ def with_features(lookups):
         features += words(tag(tag_of(number))) + [[0, 1, number]]
     language = [0, 65535, count, *range(count)]
     scripts = [1, *words(tag(b"DFLT")), [language, 0]]
-    scripts[-1] = [language, 0]
     return [1, 0, scripts, features, [count, *lookups]]
 
 
@@ -75,7 +74,7 @@ def groups(glyphs):
 
 
 class Font:
-    def __init__(self, gsub, gdef, glyphs=400):
+    def __init__(self, gsub, gdef, glyphs):
         tables = {
             b"GSUB": gsub, b"GDEF": gdef, b"cmap": cmap(glyphs), b"maxp": struct.pack(">IH", 0x5000, glyphs + 1),
             b"head": struct.pack(">IIIIHHQQhhhhHHhhh", 0x10000, 0x10000, 0, 0x5F0F3CF5, 0, 1000, 0, 0, 0, 0, 0, 0, 0, 8, 2, 0, 0),

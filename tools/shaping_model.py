@@ -15,11 +15,13 @@ WAYS = (
     "alternate values of 8 bits",
     "operations counted",
     "more than 64 positions",
+    "class cache",
+    "guessed classes",
 )
 
 
 # Tables. A subtable gives its structure (a list of words; a list inside is an offset to that structure) and, of a glyph,
-# its candidates: backtrack, further input, lookahead, as tests of a glyph, and the action.
+# its candidates: backtrack, further input and lookahead, as tests of what stands in the run, and the action.
 
 Candidate = collections.namedtuple("Candidate", "back ahead look action")
 
@@ -54,15 +56,23 @@ def classes(of, ranged=True):
 
 
 def equal(glyph):
-    return lambda other: other == glyph
+    return lambda each: each.glyph == glyph
 
 
 def of_class(of, value):
-    return lambda glyph: of.get(glyph, 0) == value
+    return lambda each: of.get(each.glyph, 0) == value
+
+
+def of_cached_class(of, value):
+    def test(each):
+        if each.cached is None:
+            each.cached = of.get(each.glyph, 0)
+        return each.cached == value
+    return test
 
 
 def covered(glyphs):
-    return lambda glyph: glyph in glyphs
+    return lambda each: each.glyph in glyphs
 
 
 class Single:
@@ -161,7 +171,15 @@ class Rules:
         sets = [self.rule_set(key) for key in range(max(self.rules) + 1)]
         return [2, covering, *(written[1:2] if self.kind == 5 else written), len(sets), *sets]
 
-    def candidates(self, glyph, alternate):
+    def caches(self):
+        """On the way 'class cache': which of backtrack, input and lookahead share one cache of classes, and what it saves."""
+        if (self.kind, self.form) != (6, 2) or not self.definitions[2]:
+            return [False] * 3, 0
+        back, ahead, look = (id(of) if of else None for of in self.definitions)
+        cost = (len(classes(self.definitions[2], self.ranged)) // 3).bit_length() if self.ranged else 1
+        return [back == ahead, ahead == look, True], cost * (max(self.rules) + 1)
+
+    def candidates(self, glyph, alternate, cached=False):
         if self.form == 3:
             if glyph in self.rules.ahead[0]:
                 tests = (list(map(covered, part)) for part in (self.rules.back, self.rules.ahead[1:], self.rules.look))
@@ -171,8 +189,9 @@ class Rules:
             return
         key = glyph if self.form == 1 else self.definitions[1].get(glyph, 0)
         for each in self.rules.get(key, []):
-            parts = zip((each.back, each.ahead, each.look), self.definitions)
-            tests = ([equal(x) if self.form == 1 else of_class(of, x) for x in part] for part, of in parts)
+            parts = zip((each.back, each.ahead, each.look), self.definitions, self.caches()[0])
+            tests = ([equal(x) if self.form == 1 else of_cached_class(of, x) if cached and cache else of_class(of, x)
+                      for x in part] for part, of, cache in parts)
             yield Candidate(*tests, ("nest", each.records))
 
 
@@ -206,9 +225,13 @@ class Lookup:
         behind = [] if self.mark_set is None else [self.mark_set]
         return [7 if self.moved else self.kind, self.flag, len(subtables), *subtables, *behind]
 
-    def candidates(self, glyph, alternate):
-        for each in self.subtables:
-            yield from each.candidates(glyph, alternate)
+    def candidates(self, glyph, alternate, cached=False):
+        costs = [each.caches()[1] if isinstance(each, Rules) else 0 for each in self.subtables]
+        for each, cost in zip(self.subtables, costs):
+            if cached and cost >= 4 and cost == max(costs):
+                yield from each.candidates(glyph, alternate, True)
+            else:
+                yield from each.candidates(glyph, alternate)
 
 
 class Font:
@@ -225,6 +248,7 @@ class Glyph:
         self.glyph, self.cluster = glyph, cluster
         # On the way 'ligature components': which ligature it is or belongs to, its component there, and how many parts it has.
         self.joined, self.component, self.parts = joined, component, parts
+        self.cached = None  # On the way 'class cache'.
 
 
 class Frame:
@@ -249,8 +273,12 @@ class Shaping:
         self.tied, self.open, self.serial = set(), [], 0
         self.operations = max(16384, 64 * len(text))
 
+    def class_of(self, glyph):
+        guessed = "guessed classes" in self.ways and not self.font.class_of
+        return self.font.class_of.get(glyph, 1 if guessed else 0)
+
     def passes_over(self, lookup, glyph):
-        kind, flag = self.font.class_of.get(glyph, 0), lookup.flag
+        kind, flag = self.class_of(glyph), lookup.flag
         if kind != 3:
             return bool(flag & {1: 2, 2: 4}.get(kind, 0))
         if flag & 8:
@@ -271,7 +299,7 @@ class Shaping:
                     break
             else:
                 return None
-            if not test(self.run[p].glyph):
+            if not test(self.run[p]):
                 return None
             met.append(p)
         return met
@@ -301,7 +329,8 @@ class Shaping:
         glyph = self.run[p].glyph
         if self.passes_over(lookup, glyph) and not (level and "passed-over record" in self.ways):
             return None
-        for candidate in lookup.candidates(glyph, alternate):
+        cached = level == 0 and "class cache" in self.ways
+        for candidate in lookup.candidates(glyph, alternate, cached):
             met = self.match(lookup, p, candidate)
             if met is not None:
                 return self.strike(candidate.action, met, alternate, level)
@@ -338,7 +367,7 @@ class Shaping:
         if len(inputs) > 1:
             self.number_components(inputs)
         first, last = self.run[inputs[0]].cluster, self.run[inputs[-1]].cluster
-        self.run[inputs[0]].glyph = ligature
+        self.run[inputs[0]].glyph, self.run[inputs[0]].cached = ligature, None
         for each in self.run:
             if first <= each.cluster <= last:
                 each.cluster = first
@@ -397,10 +426,10 @@ class Shaping:
         return False
 
     def parts(self, each):
-        return each.parts if self.font.class_of.get(each.glyph, 0) == 2 and each.parts > 1 else 1
+        return each.parts if self.class_of(each.glyph) == 2 and each.parts > 1 else 1
 
     def number_components(self, inputs):
-        kinds = [self.font.class_of.get(self.run[p].glyph, 0) for p in inputs]
+        kinds = [self.class_of(self.run[p].glyph) for p in inputs]
         all_marks = set(kinds) == {3}
         ligates = not all_marks and not (kinds[0] == 1 and set(kinds[1:]) == {3})
         first = self.run[inputs[0]]
@@ -427,6 +456,8 @@ class Shaping:
             alternate %= 256
             if alternate == 0:
                 return
+        for each in self.run:
+            each.cached = None
         if self.lookups[number].kind == 8:
             for p in reversed(range(len(self.run))):
                 self.attempt(number, alternate, p)

@@ -166,29 +166,7 @@ struct Tally {
     fail: u32,
 }
 
-fn main(rt: HostRuntime) -> io::Result<()> {
-    let mut setting = Setting {
-        font: FontFile::Label(Vec::new(rt.alloc())),
-        name: String::new(rt.alloc()),
-        gsub: Vec::new(rt.alloc()),
-    };
-    let mut tally = Tally {
-        agree: 0,
-        differ: 0,
-        fail: 0,
-    };
-    for line in BufReader::new(rt.alloc(), rt.stdin())?.lines(rt.alloc()) {
-        let line = line?;
-        read(&rt, &mut setting, &mut tally, line.as_str())?;
-    }
-    let Tally {
-        agree,
-        differ,
-        fail,
-    } = tally;
-    println!(rt; "{agree} agree, {differ} differ by a rule that is named, {fail} fail")
-}
-
+// A case is counted, and told where the two answers differ or a rule is named for nothing.
 fn case(rt: &HostRuntime, setting: &Setting, tally: &mut Tally, rest: &str) -> io::Result<()> {
     let heap = rt.alloc();
     let mut parts = rest.split('|');
@@ -215,6 +193,7 @@ fn case(rt: &HostRuntime, setting: &Setting, tally: &mut Tally, rest: &str) -> i
     println!(rt; "{why}")
 }
 
+// Takes a line: what the cases behind it share, or a case.
 fn read(rt: &HostRuntime, setting: &mut Setting, tally: &mut Tally, line: &str) -> io::Result<()> {
     let heap = rt.alloc();
     let (kind, rest) = line.split_once('|').unwrap_or(("", ""));
@@ -236,4 +215,27 @@ fn read(rt: &HostRuntime, setting: &mut Setting, tally: &mut Tally, line: &str) 
         _ => return case(rt, setting, tally, rest),
     }
     Ok(())
+}
+
+fn main(rt: HostRuntime) -> io::Result<()> {
+    let mut setting = Setting {
+        font: FontFile::Label(Vec::new(rt.alloc())),
+        name: String::new(rt.alloc()),
+        gsub: Vec::new(rt.alloc()),
+    };
+    let mut tally = Tally {
+        agree: 0,
+        differ: 0,
+        fail: 0,
+    };
+    for line in BufReader::new(rt.alloc(), rt.stdin())?.lines(rt.alloc()) {
+        let line = line?;
+        read(&rt, &mut setting, &mut tally, line.as_str())?;
+    }
+    let Tally {
+        agree,
+        differ,
+        fail,
+    } = tally;
+    println!(rt; "{agree} agree, {differ} differ by a rule that is named, {fail} fail")
 }
