@@ -1,7 +1,7 @@
 // The candidates that a subtable lists for a glyph, by its form.
-ghost use Rattle.std.specs.Prelude.{◌≡◌, ◌≢◌, ℕ, ◌+◌, ◌*◌, ◌^◌, ◌<◌, ◌≤◌, [], ◌∷◌};
+ghost use Rattle.std.specs.Prelude.{◌≡◌, ◌≢◌, ℕ, ◌+◌, ◌*◌, ◌^◌, ◌<◌, [], ◌∷◌};
 ghost use Rattle.layout.specs.Bytes.{u16_at};
-ghost use Rattle.gsub.specs.Candidates.{class_rules_of, entry, form_candidates, index, input_classes, lookahead_classes, puts, rule_set};
+ghost use Rattle.gsub.specs.Candidates.{class_rules_of, form_candidates, index, input_classes, lookahead_classes, puts, rule_set};
 ghost use Rattle.gsub.specs.Forms.{delta, single, multiple, alternate, ligature, glyph_rules, class_rules, coverage_rule, reverse, form_is, part_is};
 ghost use Rattle.gsub.specs.Subtables.{class_count};
 ghost use Rattle.candidates.specs.Sets.{SoundSet, class_kind, rule_made};

@@ -1,5 +1,5 @@
 // Candidates from the bytes of rules.
-ghost use Rattle.std.specs.Prelude.{◌≡◌, ◌+◌, ◌*◌, ◌^◌, ◌<◌, ◌≤◌, [], ◌∷◌, map};
+ghost use Rattle.std.specs.Prelude.{◌≡◌, ◌+◌, ◌*◌, ◌^◌, ◌<◌, ◌≤◌, [], map};
 ghost use Rattle.layout.specs.Bytes.{u16_at};
 ghost use Rattle.gsub.specs.Rules.{past};
 ghost use Rattle.gsub.specs.Candidates.{covered, entries_of, ligature_at, rule_at, puts};

@@ -1,13 +1,11 @@
 // The entries of an array as those of a pattern.
 ghost use Rattle.std.specs.Prelude.{◌≡◌, ◌<◌};
-ghost use Rattle.layout.specs.Bytes.{u16_at};
-ghost use Rattle.candidates.specs.Asked.{Askable, test_of, tests_of};
+ghost use Rattle.candidates.specs.Asked.{test_of, tests_of};
 ghost use Rattle.candidates.specs.Views.{entry_at};
 
 use crate::asks::Asks;
 use crate::entries::EntryArray;
 use crate::places::{class_of, index_of, u16_at};
-use gsub::arrays::Array;
 use matching::seek::Entries;
 
 impl Entries for EntryArray<'_> {

@@ -1,5 +1,5 @@
 // What offsets of a subtable's part lead to, and where the arrays of its rules stand.
-ghost use Rattle.std.specs.Prelude.{◌≡◌, ◌≢◌, ◌+◌, ◌*◌, ◌^◌, ◌<◌, ◌≤◌, drop, None};
+ghost use Rattle.std.specs.Prelude.{◌≡◌, ◌+◌, ◌*◌, ◌^◌, ◌<◌, ◌≤◌, drop};
 ghost use Rattle.layout.specs.Bytes.{u16_at};
 ghost use Rattle.layout.specs.Classes.{class_behind};
 ghost use Rattle.layout.specs.Coverages.{coverage_index};

@@ -25,4 +25,5 @@ examples = record {
   by_coverages = refl;
   second_input = refl;
   first_input = refl;
+  missing = refl;
 }

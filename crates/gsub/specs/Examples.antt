@@ -2,7 +2,7 @@
 use Rattle.std.specs.Prelude.{◌≡◌, ℕ, true, false, List, [], ◌∷◌, map, None, nat_eq}
 use Rattle.layout.specs.Faults.{first_in}
 use Rattle.model.specs.Lookups.{Action, put, join, nest, Candidate}
-use Rattle.gsub.specs.Meaning.{gsub_means}
+use Rattle.gsub.specs.Meaning.{gsub_means, no_lookup}
 use Rattle.gsub.specs.Tables.{gsub_faults}
 
 -- Lookup 0: x plus 3. 1: f i becomes fi, under flag 8. 2: alternates 6 and 7 of x. 3: x between f and m runs lookup 0. 4: x (class 1) before a glyph of class 2, which is 6. 5: i before i becomes x, backward. 6: an extension: x becomes x x; flag 16 and mark set 6. 7: f i runs lookup 0 at i.
@@ -47,3 +47,5 @@ pub record Examples : Type 0 where
   pub by_coverages : map (λ c. c.action) (candidates 7 1 1) ≡ nest (record { index = 1; lookup = 0 } ∷ []) ∷ []
   pub second_input : map (λ c. map (λ test. test 2) c.pattern.input) (candidates 7 1 1) ≡ (true ∷ []) ∷ []
   pub first_input : candidates 7 1 2 ≡ []
+  -- a number past the lookups
+  pub missing : gsub_means table 8 ≡ no_lookup

@@ -7,4 +7,6 @@ pub mod plan;
 pub mod refusal;
 pub mod shape;
 mod stop;
+#[cfg(test)]
+mod tests;
 mod work;

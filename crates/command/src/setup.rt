@@ -1,0 +1,72 @@
+use crate::asked::ShapeOptions;
+use crate::failure::Failure;
+use crate::files::Files;
+use crate::usage::UsageError;
+use font::source::FontSource;
+use gsub::table::Gsub;
+use model::{Entry, Glyph};
+use parsing::error::ListError;
+use parsing::list::plan_of;
+use shaping::shape::Inputs;
+use std::alloc::Global;
+
+// What a text is shaped with besides the font, as it was read.
+#[derive(Drop)]
+pub struct Setup {
+    plan: Vec<Entry>,
+    // The bytes of the table.
+    table: Vec<u8>,
+    limit: u32,
+    room: u32,
+}
+
+// Memory for a text that is shaped.
+#[derive(Drop)]
+pub struct Memory {
+    pub run: Vec<Glyph>,
+    pub marks: Vec<u8>,
+}
+
+fn plan(heap: Global, word: &str) -> Result<Vec<Entry>, Failure> {
+    match plan_of(heap, word) {
+        Ok(plan) => Ok(plan),
+        Err(ListError::Item) => Err(Failure::usage(heap, UsageError::BadPlan(word))),
+        Err(ListError::Memory) => Err(Failure::Memory),
+    }
+}
+
+impl Setup {
+    pub fn read<F: Files>(files: &F, asked: ShapeOptions) -> Result<Setup, Failure> {
+        Ok(Setup {
+            plan: plan(files.heap(), asked.plan)?,
+            table: asked.gsub.bytes(files)?,
+            limit: asked.limit,
+            room: asked.room,
+        })
+    }
+
+    pub fn inputs<'a, S: FontSource>(
+        &'a self,
+        heap: Global,
+        source: &'a S,
+    ) -> Result<Inputs<'a, S>, Failure> {
+        Ok(Inputs {
+            source,
+            table: Gsub::checked(heap, self.table.as_slice())?,
+            plan: self.plan.as_slice(),
+            limit: self.limit,
+        })
+    }
+
+    // Room for a text of so many characters. Any room above 65,535 is refused alike, so no more is taken for it.
+    pub fn memory(&self, heap: Global, characters: usize) -> Result<Memory, Failure> {
+        let blank = Glyph {
+            glyph: 0,
+            cluster: 0,
+        };
+        Ok(Memory {
+            run: vec![in heap; blank; self.room.min(65_536) as usize]?,
+            marks: vec![in heap; 0; characters]?,
+        })
+    }
+}

@@ -1,2 +1,0 @@
-pub mod Content
-pub mod PairLine

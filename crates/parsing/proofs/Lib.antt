@@ -1,0 +1,6 @@
+mod Errors
+mod Items
+mod Numbered
+mod Places
+mod StripLast
+mod Words

@@ -1,0 +1,25 @@
+-- Errors by name, and what other errors turn into.
+use Rattle.std.specs.Prelude.{ℕ}
+use Rattle.font.specs.declared.refusal.Refusal.{Refusal}
+use Rattle.parsing.specs.declared.error.ReadError.{ReadError}
+use Rattle.parsing.specs.declared.error.ReadError.TheVariants as read
+use Rattle.parsing.specs.declared.error.ListError.{ListError}
+use Rattle.parsing.specs.declared.error.ListError.TheVariants as list
+
+abbrev pub refused_with : Refusal → ReadError
+refused_with refusal = read.Refused refusal
+
+abbrev pub not_utf8 : ReadError
+not_utf8 = read.NotUtf8
+
+abbrev pub bad_line : ℕ → ReadError
+bad_line n = read.Line n
+
+abbrev pub no_memory : ReadError
+no_memory = read.Memory
+
+abbrev pub no_memory_for_list : ListError
+no_memory_for_list = list.Memory
+
+abbrev pub bad_item : ListError
+bad_item = list.Item
