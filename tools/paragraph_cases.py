@@ -160,6 +160,9 @@ class Cases:
         """An error is what the second mitqorad does not say."""
         self.lines.append((line, None if error is None else f"$ {line}\nerror: {error}\nstatus: 1"))
 
+    def answer(self, line, page):
+        self.lines.append((line, f"$ {line}\n{page}\nstatus: 0"))
+
     def answers(self, folder):
         return [case(line, folder) if answer is None else answer for line, answer in self.lines]
 
@@ -426,6 +429,7 @@ def refused_cases(cases):
     usage("calls --label fi.label --gsub fi.gsub --plan 0 fix.txt empty.script empty.script", "more than one text: empty.script")
     usage("calls --label fi.label --gsub fi.gsub --plan 0 --breaks 1 fix.txt empty.script", "unknown option --breaks")
     usage("''", "unknown command ")
+    cases.answer("--version", "mitqorad 0.1.0")
 
     def unread(line, error):
         cases.call(line, f"mitqorad: {error}")
