@@ -1,13 +1,12 @@
-use crate::asked::ShapeOptions;
 use crate::content::Content;
 use crate::failure::Failure;
 use crate::files::Files;
-use crate::input::Input;
 use crate::meaning::refusal_meaning;
 use crate::setup::Setup;
+use asking::asked::ShapeOptions;
+use asking::input::Input;
 use font::source::FontSource;
 use paragraph::calls::{Answer, Call, Copied};
-use paragraph::perform::perform;
 use report::{marks_line, records_line};
 use std::alloc::{AllocError, Global};
 
@@ -65,7 +64,21 @@ fn said(heap: Global, call: Call, answer: &Answer) -> Result<String, AllocError>
     }
 }
 
-// What the lines of a script ask of a paragraph of the text, and what each answers. What is owed at its end is let go with the paragraph.
+// The calls of a script, and behind them a waive of each slip that there may be.
+fn with_waives(heap: Global, script: &[Call]) -> Result<Vec<Call>, AllocError> {
+    let mut calls = Vec::new(heap);
+    calls.extend_from_slice(script)?;
+    let lines = script
+        .iter()
+        .filter(|call| matches!(call, Call::Line { a: _, b: _ }))
+        .count();
+    for slip in 1..=lines {
+        calls.push(Call::Waive { slip })?;
+    }
+    Ok(calls)
+}
+
+// What a paragraph of the text answers to the lines of a script, at whose end what is owed is waived.
 pub fn calls<F: Files, S: FontSource>(
     files: &F,
     source: &S,
@@ -74,29 +87,22 @@ pub fn calls<F: Files, S: FontSource>(
     script: Input,
 ) -> Result<String, Failure> {
     let heap = files.heap();
-    let calls = Content::read(files, script)?.calls(heap)?;
+    let script = Content::read(files, script)?.calls(heap)?;
+    let calls = with_waives(heap, script.as_slice())?;
     let setup = Setup::read(files, asked)?;
-    let inputs = setup.inputs(heap, source)?;
-    let mut memory = setup.memory(heap, text.len())?;
-    let mut own = setup.memory(heap, text.len())?;
-    let answered = perform(
-        heap,
-        1,
-        calls.as_slice(),
-        &inputs,
-        text,
-        memory.run.as_mut_slice(),
-        memory.marks.as_mut_slice(),
-        own.run.as_mut_slice(),
-        own.marks.as_mut_slice(),
-    )?;
+    let answered = setup.perform(heap, source, text, calls.as_slice())?;
     let mut page = String::new(heap);
-    for (call, answer) in calls.iter().zip(answered.answers.iter()) {
+    for (call, answer) in script.iter().zip(answered.answers.iter()) {
         page.push_str(said(heap, *call, answer)?.as_str())?;
     }
-    if answered.owed > 0 {
-        let owed = answered.owed;
-        page.push_str(format!(in heap; "end: waived {owed}\n")?.as_str())?;
+    let waived = answered
+        .answers
+        .iter()
+        .skip(script.len())
+        .filter(|answer| matches!(answer, Answer::Waived))
+        .count();
+    if waived > 0 {
+        page.push_str(format!(in heap; "end: waived {waived}\n")?.as_str())?;
     }
     Ok(page)
 }

@@ -1,6 +1,6 @@
 use crate::failure::Failure;
 use crate::files::Files;
-use crate::input::Input;
+use asking::input::Input;
 use font::pairs::PairTable;
 use paragraph::calls::Call;
 use parsing::error::ReadError;
@@ -8,6 +8,20 @@ use parsing::pairs::pairs;
 use parsing::script::script;
 use parsing::text::{characters, numbers};
 use std::alloc::Global;
+
+// All bytes of a file.
+pub fn bytes<F: Files>(files: &F, input: Input) -> Result<Vec<u8>, Failure> {
+    let read = match input {
+        Input::File(path) => files.file(path),
+        Input::StandardInput => files.standard_input(),
+    };
+    match read {
+        Ok(bytes) => Ok(bytes),
+        Err(error) => Err(Failure::Sentence(format!(in files.heap();
+            "cannot read {input}: {error}"
+        )?)),
+    }
+}
 
 // What was read, and where, which a message about it tells.
 #[derive(Drop)]
@@ -20,7 +34,7 @@ impl<'a> Content<'a> {
     pub fn read<F: Files>(files: &F, input: Input<'a>) -> Result<Content<'a>, Failure> {
         Ok(Content {
             input,
-            bytes: input.bytes(files)?,
+            bytes: bytes(files, input)?,
         })
     }
 
@@ -62,7 +76,6 @@ impl<'a> Content<'a> {
     // The calls of a script, one a line.
     pub fn calls(&self, heap: Global) -> Result<Vec<Call>, Failure> {
         let should_be = "a call: shape, line A B, pay K, waive K or clear";
-        script(heap, self.bytes.as_slice())
-            .map_err(|error| self.failure(heap, error, should_be))
+        script(heap, self.bytes.as_slice()).map_err(|error| self.failure(heap, error, should_be))
     }
 }

@@ -1,5 +1,5 @@
 use crate::meaning::{fault_meaning, refusal_meaning, source_meaning};
-use crate::usage::UsageError;
+use asking::usage::UsageError;
 use font::refusal::Refusal as SourceRefusal;
 use gsub::check::CheckError;
 use layout::fault::TableFault;

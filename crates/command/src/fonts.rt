@@ -1,12 +1,13 @@
+use crate::content::bytes;
 use crate::failure::Failure;
 use crate::files::Files;
-use crate::font_files::TableFiles;
-use crate::input::Input;
+use asking::font_files::TableFiles;
+use asking::input::Input;
 use label_font::table::LabelFont;
 use table_font::table::TableFont;
 
 pub fn read_label<F: Files>(files: &F, input: Input) -> Result<LabelFont, Failure> {
-    let bytes = input.bytes(files)?;
+    let bytes = bytes(files, input)?;
     let mut font = LabelFont::new();
     font.read(bytes.as_slice())?;
     Ok(font)
@@ -25,12 +26,12 @@ pub struct TableBytes {
 impl TableBytes {
     pub fn read<F: Files>(files: &F, tables: TableFiles) -> Result<TableBytes, Failure> {
         Ok(TableBytes {
-            cmap: tables.cmap.bytes(files)?,
+            cmap: bytes(files, tables.cmap)?,
             gdef: match tables.gdef {
-                Some(input) => input.bytes(files)?,
+                Some(input) => bytes(files, input)?,
                 None => Vec::new(files.heap()),
             },
-            hmtx: tables.hmtx.bytes(files)?,
+            hmtx: bytes(files, tables.hmtx)?,
             metrics: tables.metrics,
         })
     }

@@ -1,12 +1,11 @@
-use crate::asked::ShapeOptions;
 use crate::failure::Failure;
 use crate::files::Files;
 use crate::setup::Setup;
-use crate::usage::UsageError;
+use asking::asked::ShapeOptions;
+use asking::usage::UsageError;
 use font::source::{MeasuredSource, run_width};
 use model::Glyph;
 use paragraph::calls::{Answer, Call, Copied};
-use paragraph::perform::perform;
 use parsing::error::ListError;
 use parsing::list::numbers_of;
 use pick::line::pick;
@@ -67,20 +66,12 @@ struct Given<'a, S: MeasuredSource> {
 }
 
 impl<S: MeasuredSource> Given<'_, S> {
-    fn line(
-        &self,
-        ends: Ends,
-        how: &str,
-        run: &[Glyph],
-        marks: &[u8],
-    ) -> Result<String, Failure> {
+    fn line(&self, ends: Ends, how: &str, run: &[Glyph], marks: &[u8]) -> Result<String, Failure> {
         let Ends { from, to } = ends;
         let width = run_width(self.source, run)?;
         let glyphs = records_line(self.heap, "glyphs:", run)?;
         let marks = marks_line(self.heap, "marks:", marks)?;
-        Ok(format!(in self.heap;
-            "{from}-{to} {how} {glyphs} {marks} width: {width}\n"
-        )?)
+        Ok(format!(in self.heap; "{from}-{to} {how} {glyphs} {marks} width: {width}\n")?)
     }
 
     // A line that was kept: its records, picked from the whole, and its marks.
@@ -90,16 +81,27 @@ impl<S: MeasuredSource> Given<'_, S> {
             cluster: 0,
         };
         let mut run = vec![in self.heap; blank; count]?;
-        pick(self.whole.run.as_slice(), ends.from, ends.to, run.as_mut_slice())?;
+        pick(
+            self.whole.run.as_slice(),
+            ends.from,
+            ends.to,
+            run.as_mut_slice(),
+        )?;
         let marks = self.whole.marks.as_slice();
-        let marks = marks.get(ends.from as usize..ends.to as usize).unwrap_or(&[]);
+        let marks = marks
+            .get(ends.from as usize..ends.to as usize)
+            .unwrap_or(&[]);
         self.line(ends, "kept", run.as_slice(), marks)
     }
 
     fn paid(&self, ends: Ends, slip: usize) -> Result<String, Failure> {
         match self.payments.get(slip.saturating_sub(1)) {
-            Some(Answer::Paid(copy)) =>
-                self.line(ends, "paid", copy.run.as_slice(), copy.marks.as_slice()),
+            Some(Answer::Paid(copy)) => self.line(
+                ends,
+                "paid",
+                copy.run.as_slice(),
+                copy.marks.as_slice(),
+            ),
             Some(Answer::Refused(refusal)) => Err(Failure::Refused(*refusal)),
             _ => Err(Failure::Unanswered),
         }
@@ -131,12 +133,9 @@ impl<S: MeasuredSource> Given<'_, S> {
             .count();
         let hits = self.whole.hits;
         let width = run_width(self.source, self.whole.run.as_slice())?;
-        page.push_str(
-            format!(in self.heap;
-                "lines: {count}, kept: {kept}, paid: {paid}, hits: {hits}, width: {width}\n"
-            )?
-            .as_str(),
-        )?;
+        page.push_str(format!(in self.heap;
+            "lines: {count}, kept: {kept}, paid: {paid}, hits: {hits}, width: {width}\n"
+        )?.as_str())?;
         Ok(page)
     }
 }
@@ -155,20 +154,7 @@ pub fn lines<F: Files, S: MeasuredSource>(
     let lines = lines_between(heap, breaks.as_slice(), length)?;
     let calls = calls_for(heap, lines.as_slice())?;
     let setup = Setup::read(files, asked)?;
-    let inputs = setup.inputs(heap, source)?;
-    let mut memory = setup.memory(heap, text.len())?;
-    let mut own = setup.memory(heap, text.len())?;
-    let answered = perform(
-        heap,
-        1,
-        calls.as_slice(),
-        &inputs,
-        text,
-        memory.run.as_mut_slice(),
-        memory.marks.as_mut_slice(),
-        own.run.as_mut_slice(),
-        own.marks.as_mut_slice(),
-    )?;
+    let answered = setup.perform(heap, source, text, calls.as_slice())?;
     match answered.answers.as_slice() {
         [Answer::Shaped(whole), rest @ ..] => {
             let given = Given {

@@ -1,10 +1,13 @@
-use crate::asked::ShapeOptions;
+use crate::content::bytes;
 use crate::failure::Failure;
 use crate::files::Files;
-use crate::usage::UsageError;
+use asking::asked::ShapeOptions;
+use asking::usage::UsageError;
 use font::source::FontSource;
 use gsub::table::Gsub;
 use model::{Entry, Glyph};
+use paragraph::calls::Call;
+use paragraph::perform::{Answered, perform};
 use parsing::error::ListError;
 use parsing::list::plan_of;
 use shaping::shape::Inputs;
@@ -39,7 +42,7 @@ impl Setup {
     pub fn read<F: Files>(files: &F, asked: ShapeOptions) -> Result<Setup, Failure> {
         Ok(Setup {
             plan: plan(files.heap(), asked.plan)?,
-            table: asked.gsub.bytes(files)?,
+            table: bytes(files, asked.gsub)?,
             limit: asked.limit,
             room: asked.room,
         })
@@ -68,5 +71,29 @@ impl Setup {
             run: vec![in heap; blank; self.room.min(65_536) as usize]?,
             marks: vec![in heap; 0; characters]?,
         })
+    }
+
+    // What a paragraph of a text answers to a list of calls. Pay has as much memory as the paragraph.
+    pub fn perform<S: FontSource>(
+        &self,
+        heap: Global,
+        source: &S,
+        text: &[u32],
+        calls: &[Call],
+    ) -> Result<Answered, Failure> {
+        let inputs = self.inputs(heap, source)?;
+        let mut memory = self.memory(heap, text.len())?;
+        let mut own = self.memory(heap, text.len())?;
+        Ok(perform(
+            heap,
+            1,
+            calls,
+            &inputs,
+            text,
+            memory.run.as_mut_slice(),
+            memory.marks.as_mut_slice(),
+            own.run.as_mut_slice(),
+            own.marks.as_mut_slice(),
+        )?)
     }
 }

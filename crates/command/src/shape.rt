@@ -1,7 +1,7 @@
-use crate::asked::ShapeOptions;
 use crate::failure::Failure;
 use crate::files::Files;
 use crate::setup::Setup;
+use asking::asked::ShapeOptions;
 use font::source::{MeasuredSource, run_width};
 use report::{marks_line, records_line};
 
@@ -22,7 +22,5 @@ pub fn shape<F: Files, S: MeasuredSource>(
     let width = run_width(source, memory.run.as_slice())?;
     let glyphs = records_line(heap, "glyphs:", memory.run.as_slice())?;
     let marks = marks_line(heap, "marks:", memory.marks.as_slice())?;
-    Ok(format!(in heap;
-        "{glyphs}\n{marks}\nhits: {hits}\nwidth: {width}\n"
-    )?)
+    Ok(format!(in heap; "{glyphs}\n{marks}\nhits: {hits}\nwidth: {width}\n")?)
 }

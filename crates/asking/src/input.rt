@@ -1,6 +1,4 @@
-use crate::failure::Failure;
-use crate::files::Files;
-use std::{fmt, io};
+use std::fmt;
 
 // Where a call's bytes come from.
 #[derive(Clone, Copy)]
@@ -15,25 +13,6 @@ impl<'a> From<&'a str> for Input<'a> {
         match word {
             "-" => Input::StandardInput,
             path => Input::File(path),
-        }
-    }
-}
-
-impl Input<'_> {
-    // All its bytes.
-    pub fn bytes<F: Files>(self, files: &F) -> Result<Vec<u8>, Failure> {
-        match self.read(files) {
-            Ok(bytes) => Ok(bytes),
-            Err(error) => Err(Failure::Sentence(format!(in files.heap();
-                "cannot read {self}: {error}"
-            )?)),
-        }
-    }
-
-    fn read<F: Files>(self, files: &F) -> io::Result<Vec<u8>> {
-        match self {
-            Input::File(path) => files.file(path),
-            Input::StandardInput => files.standard_input(),
         }
     }
 }
