@@ -14,7 +14,7 @@ typedef struct { uint16_t glyph; uint32_t cluster; } RunGlyph;
 typedef struct { uint32_t refused, hits; size_t glyphs; } Answer;
 extern Answer mitqorad_shape(const uint8_t *gsub, size_t gsub_length, const uint8_t *cmap, size_t cmap_length,
                              const uint8_t *gdef, size_t gdef_length, const PlanEntry *plan, size_t plan_length,
-                             uint32_t limit, const uint32_t *text, size_t length, uint32_t times,
+                             uint32_t limit, uint32_t before, const uint32_t *text, size_t length,
                              RunGlyph *run, size_t room, uint8_t *marks, size_t marks_length);
 
 enum { ROOM = 65535, LIMIT = 1000000 };
@@ -46,8 +46,8 @@ static double now(void) {
 
 static Answer ours(size_t length, uint32_t times) {
     return mitqorad_shape(gsub.bytes, gsub.length, cmap.bytes, cmap.length, gdef.bytes, gdef.length,
-                          (PlanEntry *)plan.bytes, plan.length / sizeof(PlanEntry), LIMIT,
-                          (uint32_t *)text.bytes, length, times, run, ROOM, marks, ROOM);
+                          (PlanEntry *)plan.bytes, plan.length / sizeof(PlanEntry), LIMIT, times,
+                          (uint32_t *)text.bytes, length, run, ROOM, marks, ROOM);
 }
 
 static void time_ours(size_t length, uint32_t times) { ours(length, times); }
@@ -135,7 +135,7 @@ int main(int count, char **words) {
         font = hb_font_create(face);
         buffer = hb_buffer_create();
         double us = seconds(time_ours, length), whole = seconds(time_harfbuzz, length);
-        Answer answer = ours(length, 1);
+        Answer answer = ours(length, 0);
         if (answer.refused) { printf("%s: refused %u\n", name, answer.refused); return 1; }
         feature.value = 1;
         time_harfbuzz(length, 1);
