@@ -6,7 +6,8 @@ ghost use Rattle.model.specs.Laws.{AtMostOneOutcome, AlwaysAnOutcome, ClustersRi
 
 use font::source::HasGlyph;
 
-// A glyph of a run: its number, and the cluster that it belongs to.
+// A glyph of a run: its number, and the cluster that it belongs to. C reads it as it is laid out here.
+#[repr(C)]
 #[derive(Clone, Copy)]
 pub struct Glyph {
     pub glyph: u16,
@@ -21,7 +22,8 @@ impl HasGlyph for Glyph {
     }
 }
 
-// A plan entry: a lookup number, and the alternate value for it and for what its records run.
+// A plan entry: a lookup number, and the alternate value for it and for what its records run. C writes it as it is laid out here.
+#[repr(C)]
 #[derive(Clone, Copy)]
 pub struct Entry {
     pub lookup: u16,
