@@ -3,4 +3,5 @@ pub mod Classes
 pub mod Coverages
 pub mod Faults
 pub mod Ranges
+pub mod Rising
 pub mod Told
