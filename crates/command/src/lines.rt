@@ -6,17 +6,21 @@ use asking::usage::UsageError;
 use font::source::{MeasuredSource, run_width};
 use model::Glyph;
 use paragraph::calls::{Answer, Call, Copied};
-use parsing::error::ListError;
 use parsing::list::numbers_of;
 use pick::line::pick;
 use report::{marks_line, records_line};
 use std::alloc::{AllocError, Global};
 
-fn places(heap: Global, word: &str) -> Result<Vec<u32>, Failure> {
-    match numbers_of(heap, word) {
-        Ok(places) => Ok(places),
-        Err(ListError::Item) => Err(Failure::usage(heap, UsageError::BadBreaks(word))),
-        Err(ListError::Memory) => Err(Failure::Memory),
+// The places that a word writes, up to one more than a text of so many characters has: so many cannot all lie inside it,
+// and rise, so that a line before the last of them is refused.
+fn places(heap: Global, word: &str, characters: usize) -> Result<Vec<u32>, Failure> {
+    let mut places = vec![in heap; 0; characters.saturating_add(1)]?;
+    match numbers_of(word, places.as_mut_slice()) {
+        Some(count) => {
+            places.truncate(count);
+            Ok(places)
+        }
+        None => Err(Failure::usage(heap, UsageError::BadBreaks(word))),
     }
 }
 
@@ -149,7 +153,7 @@ pub fn lines<F: Files, S: MeasuredSource>(
     breaks: &str,
 ) -> Result<String, Failure> {
     let heap = files.heap();
-    let breaks = places(heap, breaks)?;
+    let breaks = places(heap, breaks, text.len())?;
     let length = u32::try_from(text.len()).unwrap_or(u32::MAX);
     let lines = lines_between(heap, breaks.as_slice(), length)?;
     let calls = calls_for(heap, lines.as_slice())?;

@@ -4,11 +4,11 @@ use crate::files::Files;
 use asking::asked::ShapeOptions;
 use asking::usage::UsageError;
 use font::source::FontSource;
+use font::table::Table;
 use gsub::table::Gsub;
 use model::{Entry, Glyph};
 use paragraph::calls::Call;
 use paragraph::perform::{Answered, perform};
-use parsing::error::ListError;
 use parsing::list::plan_of;
 use shaping::shape::Inputs;
 use std::alloc::Global;
@@ -16,7 +16,7 @@ use std::alloc::Global;
 // What a text is shaped with besides the font, as it was read.
 #[derive(Drop)]
 pub struct Setup {
-    plan: Vec<Entry>,
+    plan: Table<Entry, 65>,
     // The bytes of the table.
     table: Vec<u8>,
     limit: u32,
@@ -30,11 +30,10 @@ pub struct Memory {
     pub marks: Vec<u8>,
 }
 
-fn plan(heap: Global, word: &str) -> Result<Vec<Entry>, Failure> {
-    match plan_of(heap, word) {
-        Ok(plan) => Ok(plan),
-        Err(ListError::Item) => Err(Failure::usage(heap, UsageError::BadPlan(word))),
-        Err(ListError::Memory) => Err(Failure::Memory),
+fn plan(heap: Global, word: &str) -> Result<Table<Entry, 65>, Failure> {
+    match plan_of(word) {
+        Some(plan) => Ok(plan),
+        None => Err(Failure::usage(heap, UsageError::BadPlan(word))),
     }
 }
 
@@ -56,7 +55,7 @@ impl Setup {
         Ok(Inputs {
             source,
             table: Gsub::checked(heap, self.table.as_slice())?,
-            plan: self.plan.as_slice(),
+            plan: self.plan.items(),
             limit: self.limit,
         })
     }

@@ -5,6 +5,7 @@ ghost use Rattle.model.specs.Examples.{FurtherExamples};
 ghost use Rattle.model.specs.Laws.{AtMostOneOutcome, AlwaysAnOutcome, ClustersRise, TiesStay, LimitsHold, RefusalsAreTwo, CutInTwo, CutInPieces, LineAlone, SumsOfPieces};
 
 use font::source::HasGlyph;
+use font::table::Blank;
 
 // A glyph of a run: its number, and the cluster that it belongs to. C reads it as it is laid out here.
 #[repr(C)]
@@ -28,6 +29,15 @@ impl HasGlyph for Glyph {
 pub struct Entry {
     pub lookup: u16,
     pub alternate: u16,
+}
+
+impl Blank for Entry {
+    ghost BLANK = { record { lookup = 0; alternate = 0 } };
+
+    const BLANK: Entry = Entry {
+        lookup: 0,
+        alternate: 0,
+    };
 }
 
 // A text has at most one outcome.

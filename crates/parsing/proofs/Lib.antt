@@ -2,5 +2,6 @@ mod Errors
 mod Items
 mod Numbered
 mod Places
+mod Put
 mod StripLast
 mod Words

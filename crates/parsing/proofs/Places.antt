@@ -1,12 +1,13 @@
 -- Where a loop stands in what it walks.
-use Rattle.std.proofs.Common.{◌≡◌, ℕ, ◌+◌, ◌<◌, List, [], ◌∷◌, ◌++◌, Bor, length, take, drop, get_or, map, sym, ap, ◌∙◌, arith}
+use Rattle.std.proofs.Common.{◌≡◌, ℕ, ◌+◌, ◌<◌, List, [], ◌∷◌, ◌++◌, Bor, length, take, drop, get_or, map, subst, sym, ap, ◌∙◌, append_assoc, length-append, arith}
 use Rattle.std.specs.List.{AllByRecursion, enumerate_from}
 use Rattle.std.proofs.lemmas.List.{take-append-drop, take-map, drop_more}
 use Rattle.std.proofs.lemmas.Simd.{map-map}
+use Rattle.std.proofs.Math.Seq.{take-append_seam}
 use Rattle.std.proofs.lemmas.List.{length-map}
 use Rattle.std.proofs.lemmas.List.FromFn.{get_or-enumerate_from, length-enumerate_from}
 use Rattle.parsing.specs.Faults.{IsFirstBad}
-use Rattle.parsing.proofs.Numbered.{elements}
+use Rattle.parsing.proofs.Numbered.{elements, one_more}
 
 -- A list is what stands before a place, what stands there, and the rest.
 pub parted : {X : Type 0} (xs : List X) (k : ℕ) (x : X) → k < length xs → x ≡ get_or xs k x → xs ≡ take k xs ++ x ∷ drop (k + 1) xs
@@ -41,3 +42,17 @@ first_bad Good xs i line all before within here good bad =
     let place = numbered_place (λ (b : Bor (List ℕ)). b.now) xs i line all before within here in
     let front = map (λ (p : ℕ × Bor (List ℕ)). p.1.now) xs in
     (front, drop (length xs + 1) all, line.now, place.0, omega (arith, place.1, length-map xs (λ (p : ℕ × Bor (List ℕ)). p.1.now)), good, bad)
+
+-- It has come to one more that is.
+pub one_more_good : (Good : List ℕ → Type 0) (xs : List (ℕ × Bor (List ℕ))) (i : ℕ) (line : Bor (List ℕ)) (all : List (List ℕ)) (n : ℕ)
+    → map (λ p. (p.0, p.1.now)) xs ≡ take (length xs) (enumerate_from 0 all)
+    → length xs < length (enumerate_from 0 all) → (i, line.now) ≡ get_or (enumerate_from 0 all) (length xs) (i, line.now)
+    → AllByRecursion Good (map (λ p. p.1.now) xs) → Good line.now → n ≡ length xs + 1 → AllByRecursion Good (take n all)
+one_more_good Good xs i line all n before within here good next e =
+    let place = numbered_place (λ (b : Bor (List ℕ)). b.now) xs i line all before within here in
+    let front = map (λ (p : ℕ × Bor (List ℕ)). p.1.now) xs in
+    let more = front ++ line.now ∷ [] in
+    let count : n ≡ length more = omega (arith, e, length-map xs (λ (p : ℕ × Bor (List ℕ)). p.1.now), length-append front (line.now ∷ [])) in
+    let whole : all ≡ more ++ drop (length xs + 1) all = place.0 ∙ sym (append_assoc front (line.now ∷ []) (drop (length xs + 1) all)) in
+    let first : take n all ≡ more = ap (λ k. take k all) count ∙ ap (take (length more)) whole ∙ take-append_seam more (drop (length xs + 1) all) in
+    subst (AllByRecursion Good) (sym first) (one_more Good front line.now good next)

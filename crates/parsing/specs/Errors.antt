@@ -3,8 +3,6 @@ use Rattle.std.specs.Prelude.{ℕ}
 use Rattle.font.specs.declared.refusal.Refusal.{Refusal}
 use Rattle.parsing.specs.declared.error.ReadError.{ReadError}
 use Rattle.parsing.specs.declared.error.ReadError.TheVariants as read
-use Rattle.parsing.specs.declared.error.ListError.{ListError}
-use Rattle.parsing.specs.declared.error.ListError.TheVariants as list
 
 abbrev pub refused_with : Refusal → ReadError
 refused_with refusal = read.Refused refusal
@@ -17,9 +15,3 @@ bad_line n = read.Line n
 
 abbrev pub no_memory : ReadError
 no_memory = read.Memory
-
-abbrev pub no_memory_for_list : ListError
-no_memory_for_list = list.Memory
-
-abbrev pub bad_item : ListError
-bad_item = list.Item

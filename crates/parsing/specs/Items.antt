@@ -1,5 +1,5 @@
 -- A word of items that are parted by commas, and what an item of a plan says.
-use Rattle.std.specs.Prelude.{ℕ, ◌≡◌, List, [], ◌∷◌, ◌==◌, Bool, true, if◌then◌else◌}
+use Rattle.std.specs.Prelude.{ℕ, ◌≡◌, List, [], ◌∷◌, ◌++◌, length, map, take, drop, ◌==◌, Bool, true, if◌then◌else◌}
 use Rattle.std.specs.List.{before_first, after_first, slice_split, list_any}
 use Rattle.std.specs.Str.Parse.{digits_value}
 use Rattle.model.specs.declared.Entry.{Entry}
@@ -26,3 +26,11 @@ IsEntry item = IsShort (before_equals item) × (has_equals item ≡ true → IsS
 
 abbrev pub entry_in : List ℕ → Entry
 entry_in item = record { lookup = digits_value 10 (before_equals item); alternate = if has_equals item then digits_value 10 (after_equals item) else 1 }
+
+-- A word's plan, up to the 65th entry: a plan of more than 64 is refused when a text is shaped.
+abbrev pub plan_in : List ℕ → List Entry
+plan_in word = take 65 (map entry_in (items_in word))
+
+-- Places that values are put into, from the first on, as many as there is room for. The others stay.
+abbrev pub put_into : {X : Type 0} → List X → List X → List X
+put_into places values = take (length places) values ++ drop (length values) places

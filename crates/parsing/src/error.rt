@@ -1,5 +1,5 @@
 ghost use Rattle.std.specs.Prelude.{◌≡◌};
-ghost use Rattle.parsing.specs.Errors.{no_memory, no_memory_for_list, refused_with};
+ghost use Rattle.parsing.specs.Errors.{no_memory, refused_with};
 
 use font::refusal::Refusal;
 use std::alloc::{AllocError, AllocFailed};
@@ -35,21 +35,5 @@ impl<T: Drop> From<AllocFailed<T>> for ReadError {
 
     fn from(_full: AllocFailed<T>) -> ReadError {
         ReadError::Memory
-    }
-}
-
-// Why a word was not read as a list.
-#[derive(Debug, Drop, PartialEq)]
-pub enum ListError {
-    // An item that is not what it should be.
-    Item,
-    Memory,
-}
-
-impl<T: Drop> From<AllocFailed<T>> for ListError {
-    ghost from_gives = { λ e r. r ≡ no_memory_for_list };
-
-    fn from(_full: AllocFailed<T>) -> ListError {
-        ListError::Memory
     }
 }

@@ -1,10 +1,9 @@
-ghost use Rattle.std.specs.Prelude.{◌≡◌, ◌<◌, length, map, IfOk, IfErr, OnOk, IsUtf8};
-ghost use Rattle.parsing.specs.Faults.{NotRead};
+ghost use Rattle.std.specs.Prelude.{◌≡◌, map, IfOk, IfErr, OnOk, IsUtf8};
 ghost use Rattle.std.specs.List.{AllByRecursion};
 ghost use Rattle.std.specs.Option.{SomeIff};
 ghost use Rattle.std.specs.Str.Lines.{lines};
 ghost use Rattle.font.specs.StandIn.{pairs_of};
-ghost use Rattle.parsing.specs.Pairs.{IsPairLine, pair_in};
+ghost use Rattle.parsing.specs.Pairs.{IsPairLine, NotPairs, pair_in};
 ghost use Rattle.parsing.specs.Text.{text_in};
 
 use crate::error::ReadError;
@@ -23,12 +22,12 @@ pub fn pair_of(line: &str) -> Option<Pair>
     })
 }
 
-// Stand-in pairs, one a line.
+// Stand-in pairs, one a line, of which a table holds 32. What is read first is told first: a line that is no pair, or a 33rd pair.
 pub fn pairs(bytes: &[u8]) -> Result<PairTable, ReadError>
     ensures utf8 { OnOk result (IsUtf8 bytes.now) }
     ensures lines { OnOk result (AllByRecursion IsPairLine (lines (text_in bytes.now))) }
     ensures pairs { IfOk result (λ table. pairs_of table ≡ map pair_in (lines (text_in bytes.now))) }
-    ensures not_read { IfErr result (λ error. NotRead IsPairLine (32 < length (lines (text_in bytes.now))) bytes.now error) }
+    ensures not_read { IfErr result (λ error. NotPairs bytes.now error) }
 {
     let text = text_of(bytes)?;
     let mut table = PairTable::new();

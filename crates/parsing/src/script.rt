@@ -1,7 +1,7 @@
-ghost use Rattle.std.specs.Prelude.{◌≡◌, ◌≢◌, ℕ, List, [], ◌∷◌, None, map, codes, IfOk, IfErr, IfSome, OnOk, IsUtf8};
-ghost use Rattle.std.specs.List.{AllZip};
+ghost use Rattle.std.specs.Prelude.{◌≡◌, ◌≢◌, ℕ, List, [], ◌∷◌, None, codes, IfOk, IfErr, IfSome, MatchOption, OnOk, IsUtf8};
+ghost use Rattle.std.specs.List.{AllByRecursion, AllZip};
 ghost use Rattle.std.specs.Str.Lines.{lines};
-ghost use Rattle.parsing.specs.Faults.{NotRead};
+ghost use Rattle.parsing.specs.Faults.{IsFirstBad, NotRead};
 ghost use Rattle.parsing.specs.Script.{IsCall, Says, Writes, words_in};
 ghost use Rattle.parsing.specs.Text.{text_in};
 
@@ -9,7 +9,7 @@ use crate::error::ReadError;
 use crate::number::number_of;
 use crate::text::text_of;
 use paragraph::calls::Call;
-use std::alloc::{AllocError, Global};
+use std::alloc::Global;
 
 // The call of a name that stands alone.
 fn bare_call(name: &str) -> Option<Call>
@@ -46,41 +46,48 @@ fn line_call(name: &str, a: u32, b: u32) -> Option<Call>
     }
 }
 
-// The call that words write.
-fn call_in(words: &[&str]) -> Option<Call>
-    ensures says { IfSome result (λ call. Says (map (λ w. w.now) words.now) call) }
-    ensures none { result ≡ None → (call : Call) → ¬ (Says (map (λ w. w.now) words.now) call) }
-{
-    match words {
-        [name] => bare_call(name),
-        [name, slip] => slip_call(name, number_of(slip)? as usize),
-        [name, from, to] => line_call(name, number_of(from)?, number_of(to)?),
-        _ => None,
-    }
-}
-
 // The call that a line writes.
-pub fn call_of(heap: Global, line: &str) -> Result<Option<Call>, AllocError>
-    ensures says { IfOk result (λ said. IfSome said (λ call. Says (words_in line.now) call)) }
-    ensures none { IfOk result (λ said. said ≡ None → (call : Call) → ¬ (Says (words_in line.now) call)) }
+pub fn call_of(line: &str) -> Option<Call>
+    ensures says { IfSome result (λ call. Says (words_in line.now) call) }
+    ensures none { result ≡ None → (call : Call) → ¬ (Says (words_in line.now) call) }
 {
-    let words: Vec<&str> = line.split(' ').collect(heap)?;
-    Ok(call_in(words.as_slice()))
+    let Some((name, rest)) = line.split_once(' ') else {
+        return bare_call(line);
+    };
+    let Some((from, to)) = rest.split_once(' ') else {
+        return slip_call(name, number_of(rest)? as usize);
+    };
+    // A fourth word would stand in the third, which is then no number.
+    line_call(name, number_of(from)?, number_of(to)?)
 }
 
-// Calls, one a line.
+// The first line that is not a call.
+fn first_bad_call(text: &str) -> Option<usize>
+    ensures { MatchOption result (AllByRecursion IsCall (lines text.now)) (λ n. IsFirstBad IsCall (lines text.now) n) }
+{
+    for (index, line) in text.lines().enumerate() {
+        if call_of(line).is_none() {
+            return Some(index + 1);
+        }
+    }
+    None
+}
+
+// Calls, one a line. All lines are seen before there is memory for any.
 pub fn script(heap: Global, bytes: &[u8]) -> Result<Vec<Call>, ReadError>
     ensures utf8 { OnOk result (IsUtf8 bytes.now) }
     ensures calls { IfOk result (λ calls. AllZip (λ line call. Says (words_in line) call) (lines (text_in bytes.now)) calls.items) }
-    ensures not_read { IfErr result (λ error. NotRead IsCall ⊥ bytes.now error) }
+    ensures not_read { IfErr result (λ error. NotRead IsCall bytes.now error) }
 {
     let text = text_of(bytes)?;
+    if let Some(line) = first_bad_call(text) {
+        return Err(ReadError::Line(line));
+    }
     let mut calls = Vec::new(heap);
-    for (index, line) in text.lines().enumerate() {
-        let Some(call) = call_of(heap, line)? else {
-            return Err(ReadError::Line(index + 1));
-        };
-        calls.push(call)?;
+    for line in text.lines() {
+        if let Some(call) = call_of(line) {
+            calls.push(call)?;
+        }
     }
     Ok(calls)
 }

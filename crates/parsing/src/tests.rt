@@ -1,4 +1,4 @@
-use crate::error::{ListError, ReadError};
+use crate::error::ReadError;
 use crate::list::{numbers_of, plan_of};
 use crate::number::number_of;
 use crate::script::script;
@@ -8,19 +8,24 @@ use std::test::Fail;
 
 #[test]
 fn plans_and_places(rt: HostRuntime) -> Result<(), Fail> {
-    let plan = plan_of(rt.alloc(), "0,3=2,010=007")?;
+    let plan = plan_of("0,3=2,010=007").ok_or("a plan")?;
+    let plan = plan.items();
     assert_eq!(rt; plan.len(), 3);
     assert_eq!(rt; (plan[0].lookup, plan[0].alternate), (0, 1));
     assert_eq!(rt; (plan[1].lookup, plan[1].alternate), (3, 2));
     assert_eq!(rt; (plan[2].lookup, plan[2].alternate), (10, 7));
-    assert_eq!(rt; plan_of(rt.alloc(), "")?.len(), 0);
-    assert_eq!(rt; plan_of(rt.alloc(), "0,").err(), Some(ListError::Item));
-    assert_eq!(rt; plan_of(rt.alloc(), "1=2=3").err(), Some(ListError::Item));
-    assert_eq!(rt; plan_of(rt.alloc(), "65536").err(), Some(ListError::Item));
-    assert_eq!(rt;
-        numbers_of(rt.alloc(), "4,9")?.as_slice(),
-        [4, 9].as_slice()
-    );
+    assert_eq!(rt; plan_of("").ok_or("an empty plan")?.items().len(), 0);
+    assert_eq!(rt; plan_of("0,").is_none(), true);
+    assert_eq!(rt; plan_of("1=2=3").is_none(), true);
+    assert_eq!(rt; plan_of("65536").is_none(), true);
+    let mut places = [1, 2, 3];
+    assert_eq!(rt; numbers_of("4,9", &mut places), Some(2));
+    assert_eq!(rt; places.as_slice(), [4, 9, 3].as_slice());
+    assert_eq!(rt; numbers_of("5,6,7,8", &mut places), Some(4));
+    assert_eq!(rt; places.as_slice(), [5, 6, 7].as_slice());
+    assert_eq!(rt; numbers_of("1,x", &mut places), None);
+    assert_eq!(rt; numbers_of("", &mut places), Some(0));
+    assert_eq!(rt; places.as_slice(), [5, 6, 7].as_slice());
     assert_eq!(rt; number_of("+4"), None);
     Ok(())
 }

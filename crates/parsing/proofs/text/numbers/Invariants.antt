@@ -1,12 +1,7 @@
 use Rattle.std.proofs.Common.{◌≡◌, map}
-use Rattle.std.specs.List.{AllByRecursion}
 use Rattle.std.specs.Str.Parse.{digits_value}
-use Rattle.parsing.specs.Number.{IsNumber}
 use Rattle.parsing.proofs.text.numbers.Given as goal
 
--- the lines so far are numbers, and their values the numbers so far
-abbrev pub invariant-loop-index : goal.invariant-loop-index
-invariant-loop-index l = record {
-  numerals : AllByRecursion IsNumber (map (λ x. x.1.now) l.yielded);
-  values : l.all.items ≡ map (digits_value 10) (map (λ x. x.1.now) l.yielded);
-}
+-- the numbers so far are those of the lines so far
+abbrev pub invariant-loop-line : goal.invariant-loop-line
+invariant-loop-line l = record { values : l.all.items ≡ map (digits_value 10) (map (λ x. x.now) l.yielded) }
