@@ -4,6 +4,7 @@
 pub mod blank;
 pub mod calls;
 mod fill;
+mod hand;
 pub mod line;
 pub mod perform;
 pub mod refusal;
