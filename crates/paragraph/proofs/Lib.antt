@@ -4,6 +4,7 @@ pub mod Kept
 pub mod Sound
 pub mod Steps
 pub mod Example
+pub mod Nine
 pub mod Hands
 pub mod Written
 pub mod Waives

@@ -3,6 +3,7 @@ pub mod Step
 pub mod Law
 pub mod Told
 pub mod Example
+pub mod Nine
 pub mod Hand
 pub mod Performs
 pub mod SaidBy

@@ -10,4 +10,6 @@ pub mod perform;
 pub mod refusal;
 pub mod shaped;
 pub mod slip;
+#[cfg(test)]
+mod tests;
 pub mod width;

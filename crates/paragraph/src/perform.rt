@@ -172,7 +172,7 @@ fn blank_call<'a, S: FontSource>(
 fn shaped_call<'a, S: FontSource>(
     mut shaped: ShapedParagraph,
     given: &'a Given<'a, S>,
-    call: &Call<Given<'a, S>>,
+    call: &'a Call<Given<'a, S>>,
     hand: &mut [Option<Slip>],
     used: &mut usize,
     memory: &Memory,
