@@ -65,7 +65,9 @@ impl<'a> Lookup<'a> {
         self.flag != 0 && passing.over(glyph)
     }
 
-    // The same where the lookup does not pass over the glyph itself. `met` gets the indices of the further input glyphs, counted from the glyph behind the position, and keeps what stands behind them; where nothing matches it keeps all.
+    // The same where the lookup does not pass over the glyph itself. `met` gets the indices of the
+    // further input glyphs, counted from the glyph behind the position, and keeps what stands behind
+    // them; where nothing matches it keeps all.
     pub fn choose<S: FontSource>(
         &self,
         source: &S,
