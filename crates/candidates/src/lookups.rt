@@ -4,7 +4,7 @@ ghost use Rattle.layout.specs.Bytes.{u16_at};
 ghost use Rattle.gsub.specs.Candidates.{subtable_candidates};
 ghost use Rattle.gsub.specs.Forms.{form_of, own_form, part_is};
 ghost use Rattle.gsub.specs.Meaning.{gsub_means, no_lookup, subtable_at, type_at};
-ghost use Rattle.candidates.specs.LookupOf.{lookup_of};
+ghost use Rattle.candidates.specs.LookupOf.{lookup_of, part_of};
 ghost use Rattle.candidates.specs.Views.{listed};
 
 use crate::forms::list;
@@ -92,8 +92,9 @@ impl<'a> Lookup<'a> {
 
     // Subtable number j; none where its type has no such format.
     fn subtable(&self, j: u16) -> Option<Subtable<'a>>
-        ensures form { own_form result ≡ form_of self.now.lookup_type (u16_at (drop (subtable_at self.now.gsub.table.now self.now.start (u16_at self.now.gsub.table.now (self.now.start + 6 + 2 * j))) self.now.gsub.table.now) 0) }
-        ensures part { IfSome result (λ subtable. part_is subtable ≡ drop (subtable_at self.now.gsub.table.now self.now.start (u16_at self.now.gsub.table.now (self.now.start + 6 + 2 * j))) self.now.gsub.table.now) }
+        ensures form { own_form result
+            ≡ form_of self.now.lookup_type (u16_at (part_of self.now j) 0) }
+        ensures part { IfSome result (λ subtable. part_is subtable ≡ part_of self.now j) }
     {
         let table = self.gsub.table;
         let offset = u16_at(table, self.start + 6 + 2 * usize::from(j));
@@ -107,7 +108,8 @@ impl<'a> Lookup<'a> {
     // What it lists for a glyph.
     pub(crate) fn listed(&self, j: u16, alternate: u16, glyph: u16) -> Option<Listed<'a>>
         requires { j < self.now.subtables }
-        ensures { listed result ≡ subtable_candidates (drop (subtable_at self.now.gsub.table.now self.now.start (u16_at self.now.gsub.table.now (self.now.start + 6 + 2 * j))) self.now.gsub.table.now) (type_at self.now.gsub.table.now self.now.start) alternate glyph }
+        ensures { listed result ≡ subtable_candidates (part_of self.now j)
+            (type_at self.now.gsub.table.now self.now.start) alternate glyph }
     {
         let subtable = self.subtable(j)?;
         list(subtable, alternate, glyph)

@@ -1,4 +1,5 @@
--- The forms of subtables: one for each pair of a type and a format. Type 7 has none: it only moves a subtable of another type.
+-- The forms of subtables: one for each pair of a type and a format. Type 7 has none: it only moves a
+-- subtable of another type.
 use Rattle.std.specs.Prelude.{◌≡◌, ℕ, Bool, true, false, cond, ◌&&◌, List, Some, None, Option, ◌==◌}
 use Rattle.gsub.specs.declared.subtable.Decided.{Decided}
 use Rattle.gsub.specs.declared.subtable.Decided.TheVariants.{Own, Extension}

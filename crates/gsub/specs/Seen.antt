@@ -11,7 +11,8 @@ use Rattle.gsub.specs.Rules.{rule_faults}
 use Rattle.gsub.specs.Subtables.{form_faults, ligature_set_faults, rule_set_faults}
 use Rattle.gsub.specs.Tables.{bare_lookup_faults}
 
--- The faults of a structure of a kind that starts at s, of a subtable those behind its format. They depend on nothing else, so one walk is enough.
+-- The faults of a structure of a kind that starts at s, of a subtable those behind its format. They
+-- depend on nothing else, so one walk is enough.
 abbrev pub faults_of : Kind → (table : List ℕ) → (lookups s : ℕ) → List Fault
 faults_of Coverage t n s = coverage_faults t s
 faults_of Classes t n s = class_faults t s

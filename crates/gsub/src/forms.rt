@@ -167,7 +167,8 @@ impl Walk<'_> {
         subtable: Subtable<'_>,
         start: Start,
     ) -> Result<(), StructureFault>
-        ensures answer { verdict result ≡ first_in (form_faults self.old.table self.old.lookups start.byte (form_is subtable.entry)) }
+        ensures answer { verdict result ≡ first_in
+            (form_faults self.old.table self.old.lookups start.byte (form_is subtable.entry)) }
         ensures same { self.new ≡ self.old }
     {
         match subtable.kind() {
@@ -178,7 +179,8 @@ impl Walk<'_> {
 }
 
 impl Target for Subtable<'_> {
-    ghost faults = { λ subtable walked s. form_faults walked.table walked.lookups s (form_is subtable) };
+    ghost faults = { λ subtable walked s.
+        form_faults walked.table walked.lookups s (form_is subtable) };
 
     fn check(&self, walk: &mut Walk<'_>, start: Start) -> Result<(), StructureFault> {
         walk.check_form(*self, start)

@@ -1,9 +1,9 @@
-ghost use Rattle.std.specs.Prelude.{◌≡◌, ◌+◌, ◌*◌, ◌≤◌, ◌++◌, length, IfOk};
+ghost use Rattle.std.specs.Prelude.{◌≡◌, ◌+◌, ◌*◌, ◌≤◌, length, IfOk};
 ghost use Rattle.layout.specs.Bytes.{u16_at, u32_at};
 ghost use Rattle.layout.specs.Faults.{first_in, in_turn};
 ghost use Rattle.layout.specs.Told.{verdict, placed_verdict};
 ghost use Rattle.gsub.specs.Subtables.{subtable_faults};
-ghost use Rattle.gsub.specs.Tables.{extension_rest, has_mark_set, in_lookup, lookup_fields, lookup_subtable, moved_type, subtable_faults_at, lookup_faults, lookup_faults_at, header_faults, lookup_list_faults};
+ghost use Rattle.gsub.specs.Tables.{extended_faults, extension_rest, has_mark_set, in_lookup, lookup_fields, lookup_subtable, moved_type, subtable_faults_at, lookup_faults, lookup_faults_at, header_faults, lookup_list_faults};
 
 use crate::seen::Kind;
 use crate::subtable::{Decided, is_known, is_movable};
@@ -15,7 +15,8 @@ use layout::structure::Structure;
 // The type and the offset of an extension, behind its format.
 fn extension_offset(moved: u16, extension: Structure<'_>) -> Result<u32, StructureFault>
     requires { extension.start + 2 ≤ length extension.table.now }
-    ensures answer { verdict result ≡ first_in (extension_rest extension.entry.table.now moved extension.entry.start) }
+    ensures answer { verdict result
+        ≡ first_in (extension_rest extension.entry.table.now moved extension.entry.start) }
     ensures offset { IfOk result (λ o. (o ≡ u32_at extension.entry.table.now (extension.entry.start + 4)) × (extension.entry.start + 8 ≤ length extension.entry.table.now)) }
 {
     let start = extension.start;
@@ -77,7 +78,8 @@ impl NumberedLookup {
 impl Walk<'_> {
     // A subtable that an extension moves, of a type.
     fn check_moved(&mut self, moved: u16, start: Start) -> Result<(), StructureFault>
-        ensures answer { verdict result ≡ first_in (subtable_faults self.old.table self.old.lookups start.byte moved) }
+        ensures answer { verdict result
+            ≡ first_in (subtable_faults self.old.table self.old.lookups start.byte moved) }
         ensures same { self.new ≡ self.old }
     {
         let structure = self.structure(start);
@@ -91,7 +93,8 @@ impl Walk<'_> {
     // An extension, behind its format, in a lookup that moves a type.
     fn check_extension(&mut self, moved: u16, start: Start) -> Result<(), StructureFault>
         requires { start.byte + 2 ≤ length self.old.table }
-        ensures answer { verdict result ≡ first_in (extension_rest self.old.table moved start.byte ++ subtable_faults self.old.table self.old.lookups (start.byte + u32_at self.old.table (start.byte + 4)) moved) }
+        ensures answer { verdict result
+            ≡ first_in (extended_faults self.old.table self.old.lookups moved start.byte) }
         ensures same { self.new ≡ self.old }
     {
         let offset = extension_offset(moved, self.structure(start))?;

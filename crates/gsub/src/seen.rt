@@ -38,7 +38,8 @@ impl Kind {
 impl Subtable<'_> {
     // Its kind, by its form; none where it leads to no more than a coverage.
     pub(crate) fn kind(self) -> Option<Kind>
-        ensures { (t : List ℕ) (n s : ℕ) → IfSome result (λ kind. faults_of kind t n s ≡ form_faults t n s (form_is self.entry)) }
+        ensures { (t : List ℕ) (n s : ℕ) → IfSome result
+            (λ kind. faults_of kind t n s ≡ form_faults t n s (form_is self.entry)) }
     {
         match self {
             Subtable::Delta { part: _ } | Subtable::Single { part: _ } => None,

@@ -19,14 +19,16 @@ pub enum Subtable<'a> {
 // What a type and a format say together.
 #[derive(Clone, Copy)]
 pub enum Decided<'a> {
-    // A subtable of a form. That its part is one of a table without faults is no fact of the type: the check asks for the form of what it has yet to check.
+    // A subtable of a form. That its part is one of a table without faults is no fact of the type:
+    // the check asks for the form of what it has yet to check.
     Own(Subtable<'a>),
     // It only moves a subtable.
     Extension,
 }
 
 impl<'a> Decided<'a> {
-    // The one decision over type and format, for the check and for shaping. None where a type has no such format. What an extension moved is no extension.
+    // The one decision over type and format, for the check and for shaping. None where a type has no
+    // such format. What an extension moved is no extension.
     pub fn of(lookup_type: u16, format: u16, moved: bool, part: &'a [u8]) -> Option<Decided<'a>>
         ensures form { formed result ≡ form_of lookup_type format }
         ensures extension { moves result ≡ (lookup_type == 7 && (format == 1 && not moved)) }

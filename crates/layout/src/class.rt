@@ -20,7 +20,8 @@ pub struct ClassDefinition<'a> {
 // Format 1: the first glyph, the count and the classes.
 fn check_list(structure: Structure<'_>) -> Result<(), ByteFault>
     requires { structure.start + 2 ≤ length structure.table.now }
-    ensures { byte_verdict result ≡ first_in (list_faults structure.entry.table.now structure.entry.start) }
+    ensures { byte_verdict result
+        ≡ first_in (list_faults structure.entry.table.now structure.entry.start) }
 {
     structure.check_fields(structure.start + 2, Width::Two, 2)?;
     let count = u64::from(structure.u16_in(4));
@@ -30,7 +31,8 @@ fn check_list(structure: Structure<'_>) -> Result<(), ByteFault>
 impl<'a> ClassDefinition<'a> {
     // The class definition that a structure is, if it has no fault; else its first.
     pub fn checked(structure: Structure<'a>) -> Result<ClassDefinition<'a>, StructureFault>
-        ensures answer { verdict result ≡ first_in (class_faults structure.entry.table.now structure.entry.start) }
+        ensures answer { verdict result
+            ≡ first_in (class_faults structure.entry.table.now structure.entry.start) }
         ensures classes { IfOk result (λ classes. classes.structure ≡ structure.entry) }
     {
         match structure.format(2)? {
@@ -68,7 +70,8 @@ impl<'a> ClassDefinition<'a> {
     // The range of format 2 that holds a glyph.
     fn range_of(&self, glyph: u16) -> Option<Range>
         requires { u16_at self.now.structure.table.now self.now.structure.start ≢ 1 }
-        ensures range { result ≡ holding glyph (class_ranges self.now.structure.table.now self.now.structure.start) }
+        ensures range { result
+            ≡ holding glyph (class_ranges self.now.structure.table.now self.now.structure.start) }
         ensures bound { IfSome result (λ range. range.value < 65536) }
     {
         self.structure.ranges(Kind::Records).find(u32::from(glyph))

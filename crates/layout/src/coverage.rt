@@ -8,7 +8,8 @@ use crate::array::{Kind, Rising, Third};
 use crate::fault::StructureFault;
 use crate::structure::Structure;
 
-// The coverage that a structure without a fault is. A search rests on the order of its ranges, and a count on their start indices.
+// The coverage that a structure without a fault is. A search rests on the order of its ranges, and
+// a count on their start indices.
 #[derive(Clone, Copy)]
 pub struct Coverage<'a> {
     pub structure: Structure<'a>,
@@ -29,7 +30,8 @@ fn kind_of(format: u16) -> Kind
 impl<'a> Coverage<'a> {
     // The coverage that a structure is, if it has no fault; else its first.
     pub fn checked(structure: Structure<'a>) -> Result<Coverage<'a>, StructureFault>
-        ensures answer { verdict result ≡ first_in (coverage_faults structure.entry.table.now structure.entry.start) }
+        ensures answer { verdict result
+            ≡ first_in (coverage_faults structure.entry.table.now structure.entry.start) }
         ensures coverage { IfOk result (λ coverage. coverage.structure ≡ structure.entry) }
     {
         let kind = kind_of(structure.format(2)?);
@@ -39,7 +41,8 @@ impl<'a> Coverage<'a> {
 
     // Its ranges.
     fn ranges(&self) -> Rising<'a>
-        ensures { ranges_of result.laid.array ≡ coverage_ranges self.now.structure.table.now self.now.structure.start }
+        ensures { ranges_of result.laid.array
+            ≡ coverage_ranges self.now.structure.table.now self.now.structure.start }
     {
         let kind = kind_of(self.structure.u16_in(0));
         self.structure.ranges(kind)
@@ -47,7 +50,8 @@ impl<'a> Coverage<'a> {
 
     // How many glyphs it has: the last one's index and one. From 32 bits to `usize` there is no `From`.
     pub fn glyph_count(&self) -> usize
-        ensures { result ≡ size (coverage_ranges self.now.structure.table.now self.now.structure.start) }
+        ensures { result
+            ≡ size (coverage_ranges self.now.structure.table.now self.now.structure.start) }
     {
         match self.ranges().laid.last() {
             Some(range) => {
@@ -59,7 +63,8 @@ impl<'a> Coverage<'a> {
 
     // The index of a glyph, if it is covered.
     pub fn index_of(&self, glyph: u16) -> Option<usize>
-        ensures { result ≡ coverage_index self.now.structure.table.now self.now.structure.start glyph }
+        ensures { result
+            ≡ coverage_index self.now.structure.table.now self.now.structure.start glyph }
     {
         let glyph = u32::from(glyph);
         let range = self.ranges().find(glyph)?;

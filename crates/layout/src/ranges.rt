@@ -84,8 +84,10 @@ impl Kind {
 impl<'a> Structure<'a> {
     // The ranges behind its format and their count, where they have no fault.
     pub(crate) fn ranges(&self, kind: Kind) -> Rising<'a>
-        requires { (third : Third) × (first_in (counted_faults third kind self.now.table.now self.now.start) ≡ None) }
-        ensures ranges { ranges_of result.laid.array ≡ counted_ranges kind self.now.table.now self.now.start }
+        requires { (third : Third)
+            × (first_in (counted_faults third kind self.now.table.now self.now.start) ≡ None) }
+        ensures ranges { ranges_of result.laid.array
+            ≡ counted_ranges kind self.now.table.now self.now.start }
         ensures kind { result.laid.array.kind ≡ kind }
     {
         let array = RangeArray {
@@ -227,7 +229,8 @@ impl Rising<'_> {
     pub fn find(&self, x: u32) -> Option<Range>
         ensures range { result ≡ holding x (ranges_of self.now.laid.array) }
         ensures inside { IfSome result (λ range. (range.first ≤ x) × (x ≤ range.last)) }
-        ensures bound { IfSome result (λ range. range.value < value_bound self.now.laid.array.kind) }
+        ensures bound { IfSome result
+            (λ range. range.value < value_bound self.now.laid.array.kind) }
     {
         let mut low = 0;
         let mut high = self.laid.array.count;

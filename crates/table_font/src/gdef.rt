@@ -6,7 +6,7 @@ ghost use Rattle.layout.specs.Coverages.{coverage_index};
 ghost use Rattle.layout.specs.Faults.{first_in, in_turn, if_there};
 ghost use Rattle.layout.specs.Told.{verdict, table_verdict};
 ghost use Rattle.layout.specs.declared.fault.TableName.TheVariants.{Gdef as OfGdef};
-ghost use Rattle.table_font.specs.Gdef.{classes_offset, header_faults, followed_faults, mark_sets_offset, set_faults_at, mark_sets_faults, gdef_faults, glyph_class, mark_class_of, set_holds, in_set};
+ghost use Rattle.table_font.specs.Gdef.{classes_offset, header_faults, followed_faults, mark_sets_offset, set_faults_at, mark_sets_faults, gdef_faults, glyph_class, mark_class_of, set_holds, set_start, in_set};
 ghost use Rattle.table_font.specs.TableFont.{table_faults};
 
 use crate::check::check_table;
@@ -40,7 +40,8 @@ enum Classes {
 
 // The structure of one of them; none where the offset is 0.
 fn class_structure(table: &[u8], of: Classes) -> Option<Structure<'_>>
-    ensures some { IfSome result (λ classes. (classes.table.now ≡ table.now) × (classes.start ≡ classes_offset table.now of) × (classes_offset table.now of ≢ 0)) }
+    ensures some { IfSome result (λ classes. (classes.table.now ≡ table.now)
+        × (classes.start ≡ classes_offset table.now of) × (classes_offset table.now of ≢ 0)) }
     ensures none { IfNone result (classes_offset table.now of ≡ 0) }
 {
     let header = Structure { table, start: 0 };
@@ -118,7 +119,8 @@ impl<'a> MarkSets<'a> {
     // The structure that the offset at a byte leads to.
     fn set(&self, at: usize) -> Structure<'a>
         ensures table { result.table.now ≡ self.now.structure.table.now }
-        ensures start { result.start ≡ self.now.structure.start + u32_at self.now.structure.table.now at }
+        ensures start { result.start
+            ≡ self.now.structure.start + u32_at self.now.structure.table.now at }
     {
         let table = self.structure.table;
         // It fits, as 16 and 32 bits do; a conversion that can fail would add a case.
@@ -135,9 +137,11 @@ impl<'a> MarkSets<'a> {
     }
 
     fn set_holds(&self, k: u16, glyph: u16) -> bool
-        requires faults { first_in (mark_sets_faults self.now.structure.table.now self.now.structure.start) ≡ None }
+        requires faults { first_in
+            (mark_sets_faults self.now.structure.table.now self.now.structure.start) ≡ None }
         requires there { k < u16_at self.now.structure.table.now (self.now.structure.start + 2) }
-        ensures { result ≡ is_some (coverage_index self.now.structure.table.now (self.now.structure.start + u32_at self.now.structure.table.now (self.now.structure.start + 4 + 4 * k)) glyph) }
+        ensures { result ≡ is_some (coverage_index self.now.structure.table.now
+            (set_start self.now.structure.table.now self.now.structure.start k) glyph) }
     {
         let structure = self.set(self.byte_of(k));
         Coverage { structure }.index_of(glyph).is_some()
