@@ -4,14 +4,13 @@ use Rattle.std.specs.Str.Lines.{lines}
 use Rattle.std.proofs.lemmas.Iterator.Consumers.{YieldsList-end, YieldsList-so_far, YieldsList-turn, YieldsList-from_enumerate}
 use Rattle.std.proofs.lemmas.Iterator.Splits.{YieldsList-from_lines}
 use Rattle.std.proofs.lemmas.List.{map-append}
-use Rattle.parsing.specs.Script.{IsCall, Says, words_in}
-use Rattle.paragraph.specs.declared.calls.Call.{Call}
+use Rattle.parsing.specs.Script.{IsCall, Says, ScriptCall, words_in}
 use Rattle.parsing.specs.Faults.{IsFirstBad}
 use Rattle.parsing.proofs.Places.{first_bad}
 use Rattle.parsing.proofs.Numbered.{enumerated, one_pair_more}
 use Rattle.parsing.proofs.script.script.Goals as goal
 
-abbrev LineSays : List ℕ → Call → Type 0
+abbrev LineSays : List ℕ → ScriptCall → Type 0
 LineSays line call = Says (words_in line) call
 
 pub loop-index-preserved : goal.loop-index-preserved
@@ -31,7 +30,7 @@ returns-clause-calls c =
     let all = enumerated (λ (x : Bor (List ℕ)). x.now) 0 _ _ end.0 ∙ ap lines c.in_ok-text.ensures.text in
     subst (λ ls. AllZip LineSays ls c.loop-index.calls.items) all c.loop-index.invariant.calls
 
-all_calls : (ls : List (List ℕ)) (calls : List Call) → AllZip LineSays ls calls → AllByRecursion IsCall ls
+all_calls : (ls : List (List ℕ)) (calls : List ScriptCall) → AllZip LineSays ls calls → AllByRecursion IsCall ls
 all_calls [] calls said = tt
 all_calls (line ∷ ls) [] said = absurd said
 all_calls (line ∷ ls) (call ∷ calls) said = ((call, said.0), all_calls ls calls said.1)
