@@ -1,4 +1,5 @@
--- A list of calls, from a paragraph's making: what is said of each, what it leaves, and the history that it is.
+-- A list of calls, from a paragraph's making: what is said of each, what it leaves, and the history
+-- that it is.
 use Rattle.std.specs.Prelude.{◌≡◌, ℕ, zero, suc, ◌-◌, ◌+◌, Bool, true, false, cond, List, [], ◌∷◌, ◌++◌, length, take, count_by, nat_le, slice_set, Some, None, Option}
 use Rattle.model.specs.declared.Glyph.{Glyph}
 use Rattle.paragraph.specs.declared.calls.Call.{Call as CallWith}
@@ -10,11 +11,14 @@ use Rattle.paragraph.specs.Hand.{in_hand, places_used}
 use Rattle.paragraph.specs.Step.{Step}
 use Rattle.paragraph.specs.Law.{Course, History, Outlasts}
 
--- A call as it is asked for: shape brings inputs, pay and waive name a place of the hand, counted from 1.
+-- A call as it is asked for: shape brings inputs, pay and waive name a place of the hand, counted
+-- from 1.
 abbrev pub Asked : Type 0
 Asked = CallWith Inputs
 
--- What is said of a call: that it was not made, since the paragraph does not know it, its slip is not in the hand, or no place is left there for a slip; or its answer. Glyphs and marks are counts.
+-- What is said of a call: that it was not made, since the paragraph does not know it, its slip is
+-- not in the hand, or no place is left there for a slip; or its answer. Glyphs and marks are
+-- counts.
 pub data Said : Type 0 where
   unknown : Said
   not_in_hand : Said
@@ -40,7 +44,8 @@ abbrev pub subject_of : Inputs → Paragraph → Subject
 subject_of x (is_blank n) = still_blank n
 subject_of x (is_shaped k) = shaped_from x k
 
--- What there is between two calls: what they are made on; the hand, and how many of its places have been in use; the paragraph's memory, and pay's own.
+-- What there is between two calls: what they are made on; the hand, and how many of its places have
+-- been in use; the paragraph's memory, and pay's own.
 pub record Desk : Type 0 where
   pub subject : Subject
   pub hand : List (Option Slip)
@@ -60,7 +65,8 @@ abbrev pub with_slip : Inputs → (Slip → Call) → Option Slip → Made
 with_slip x f None = says not_in_hand
 with_slip x f (Some s) = makes x (f s)
 
--- A blank paragraph knows only shape, with the inputs that it brings; a shaped one all but shape, with those of its accepted shape. A line is made only while a place is left in the hand.
+-- A blank paragraph knows only shape, with the inputs that it brings; a shaped one all but shape,
+-- with those of its accepted shape. A line is made only while a place is left in the hand.
 abbrev pub asked_of : Subject → Desk → Asked → Made
 asked_of (still_blank n) d (Shape x) = makes x shape
 asked_of (still_blank n) d (LineOf a b) = says unknown
@@ -68,7 +74,8 @@ asked_of (still_blank n) d (Pay j) = says unknown
 asked_of (still_blank n) d (Waive j) = says unknown
 asked_of (still_blank n) d Clear = says unknown
 asked_of (shaped_from x k) d (Shape y) = says unknown
-asked_of (shaped_from x k) d (LineOf a b) = cond (nat_le (length d.hand) d.used) (says no_place) (makes x (line a b))
+asked_of (shaped_from x k) d (LineOf a b) =
+    cond (nat_le (length d.hand) d.used) (says no_place) (makes x (line a b))
 asked_of (shaped_from x k) d (Pay j) = with_slip x (λ s. pay s d.own) (in_hand d.hand j)
 asked_of (shaped_from x k) d (Waive j) = with_slip x waive (in_hand d.hand j)
 asked_of (shaped_from x k) d Clear = makes x clear
@@ -87,7 +94,8 @@ done_as (pay s own) p = unknown
 done_as (waive s) p = was_waived
 done_as clear p = was_cleared
 
--- What is said of a call that was made, by its answer, the paragraph that it left, and how many places were in use.
+-- What is said of a call that was made, by its answer, the paragraph that it left, and how many
+-- places were in use.
 abbrev pub said_of : Call → Answer → Paragraph → (used : ℕ) → Said
 said_of c done p n = done_as c p
 said_of c (gives (kept a b first count)) p n = was_kept first count
@@ -105,7 +113,8 @@ taken hand (Pay j) = slice_set hand (j - 1) None
 taken hand (Waive j) = slice_set hand (j - 1) None
 taken hand Clear = hand
 
--- A slip that is given out goes behind the places in use; a refused pay or waive leaves its own where it was.
+-- A slip that is given out goes behind the places in use; a refused pay or waive leaves its own
+-- where it was.
 abbrev pub hand_after : Desk → Asked → Answer → List (Option Slip)
 hand_after d c done = taken d.hand c
 hand_after d c (gives l) = taken d.hand c
@@ -135,13 +144,20 @@ own_after m (unpaid n s own) = own
 -- What a call that was made leaves.
 abbrev pub desk_after : Desk → Asked → Inputs → Answer → Paragraph → Memory → Desk
 desk_after d c x r p m =
-    record { subject = subject_of x p; hand = hand_after d c r; used = used_after d.used r; memory = m; own = own_after d.own r }
+    record {
+      subject = subject_of x p;
+      hand = hand_after d c r;
+      used = used_after d.used r;
+      memory = m;
+      own = own_after d.own r;
+    }
 
 -- A call that was not made changes nothing; one that was made is a step.
 abbrev pub Does : Asked → Said → Desk → Option (Call × Answer) → Desk → Type 0
 Does c said d None e = (asks d c ≡ says said) × (e ≡ d)
 Does c said d (Some (call, r)) e =
-    (x : Inputs) × (p : Paragraph) × (m : Memory) × (asks d c ≡ makes x call) × Step x d.memory (paragraph_of d.subject) call r p m × (said ≡ said_of call r p d.used)
+    (x : Inputs) × (p : Paragraph) × (m : Memory) × (asks d c ≡ makes x call)
+    × Step x d.memory (paragraph_of d.subject) call r p m × (said ≡ said_of call r p d.used)
     × (e ≡ desk_after d c x r p m)
 
 -- A call and what is said of it, from desk to desk.
@@ -158,7 +174,8 @@ first_of m glyphs marks = record { run = take glyphs m.run; marks = take marks m
 abbrev pub nothing : Memory
 nothing = record { run = []; marks = [] }
 
--- The glyphs and marks that a call gave: an accepted shape in the paragraph's memory, a pay in its own.
+-- The glyphs and marks that a call gave: an accepted shape in the paragraph's memory, a pay in its
+-- own.
 abbrev pub given_by : Said → Desk → Memory
 given_by unknown e = nothing
 given_by not_in_hand e = nothing
@@ -174,15 +191,21 @@ given_by (was_refused number) e = nothing
 abbrev pub joined : Memory → Memory → Memory
 joined m n = record { run = m.run ++ n.run; marks = m.marks ++ n.marks }
 
--- Any list of calls, in order: what was said of each, those that were made, the last first, and what they gave, one behind the other.
-pub data Performs (start : Desk) : List Asked → List Said → List (Call × Answer) → (gave : Memory) → Desk → Type 0 where
+-- Any list of calls, in order: what was said of each, those that were made, the last first, and
+-- what they gave, one behind the other.
+pub data Performs (start : Desk)
+    : List Asked → List Said → List (Call × Answer) → (gave : Memory) → Desk → Type 0 where
   begun : {d : Desk} → d ≡ start → Performs start [] [] [] nothing d
-  on : {cs : List Asked} {said : List Said} {hs : List (Call × Answer)} {gave : Memory} {d : Desk} (c : Asked) (a : Said) (h : Option (Call × Answer)) {e : Desk} {cs' : List Asked} {said' : List Said} {hs' : List (Call × Answer)} {gave' : Memory}
-      → Performs start cs said hs gave d → Does c a d h e → cs' ≡ cs ++ c ∷ [] → said' ≡ said ++ a ∷ [] → hs' ≡ in_front h hs → gave' ≡ joined gave (given_by a e) → Performs start cs' said' hs' gave' e
+  on : {cs : List Asked} {said : List Said} {hs : List (Call × Answer)} {gave : Memory} {d : Desk}
+      (c : Asked) (a : Said) (h : Option (Call × Answer)) {e : Desk}
+      {cs' : List Asked} {said' : List Said} {hs' : List (Call × Answer)} {gave' : Memory}
+      → Performs start cs said hs gave d → Does c a d h e
+      → cs' ≡ cs ++ c ∷ [] → said' ≡ said ++ a ∷ [] → hs' ≡ in_front h hs
+      → gave' ≡ joined gave (given_by a e) → Performs start cs' said' hs' gave' e
 
 -- A paragraph is made, and nothing was called yet.
 abbrev pub start : (number : ℕ) → (hand : List (Option Slip)) → (memory own : Memory) → Desk
-start number hand m own = record { subject = still_blank number; hand = hand; used = places_used hand; memory = m; own = own }
+start number hand m own = desk (still_blank number) hand (places_used hand) m own
 
 -- Waive of each place in use, in order.
 abbrev pub waives : (used : ℕ) → List Asked
@@ -214,7 +237,9 @@ pub record Run (begin : Desk) (calls : List Asked) : Type 0 where
 -- Those that were made are a history of the paragraph, and the cutting law holds of it.
 abbrev pub Lawful : (number : ℕ) → List (Call × Answer) → Subject → Memory → Type 0
 Lawful number hs (still_blank n) m = History number hs (is_blank n) tt
-Lawful number hs (shaped_from x k) m = (s : Course) × History number hs (is_shaped k) s × (s.inputs ≡ x) × (s.memory ≡ m) × Outlasts k s
+Lawful number hs (shaped_from x k) m =
+    (s : Course) × History number hs (is_shaped k) s × (s.inputs ≡ x) × (s.memory ≡ m)
+    × Outlasts k s
 
 abbrev pub owed_by : Subject → ℕ
 owed_by (still_blank n) = 0

@@ -1,4 +1,5 @@
--- What the code says of a call, what it holds between two calls, and all that a list of calls hands back.
+-- What the code says of a call, what it holds between two calls, and all that a list of calls hands
+-- back.
 use Rattle.std.specs.Prelude.{◌≡◌, ℕ, List, ◌++◌, drop, length, map, take, count_by, Some, None, Option}
 use Rattle.font.specs.Font.{Font}
 use Rattle.model.specs.declared.Glyph.{Glyph}
@@ -10,7 +11,6 @@ use Rattle.paragraph.specs.declared.calls.Given.{Given}
 use Rattle.paragraph.specs.declared.calls.Memory.{Memory as Lent}
 use Rattle.paragraph.specs.declared.slip.Slip.{Slip}
 use Rattle.paragraph.specs.Calls.{Inputs, Memory}
-use Rattle.paragraph.specs.Hand.{slips_in}
 use Rattle.paragraph.specs.Performs.{Asked, Desk, Lawful, Run, Said, has_slip, is_waived, no_place, not_in_hand, owed_by, start, unknown, was_cleared, was_kept, was_paid, was_refused, was_shaped, was_waived}
 use Rattle.paragraph.specs.Told.{inputs_of, memory, refusal_number}
 
@@ -32,7 +32,9 @@ lent m = memory m.run.items m.marks.items
 -- What a source means, and what widths it is given: each has its own.
 module _ {S : Type 0} (means : S → Font) (advances : S → ℕ → ℕ) where
   abbrev pub inputs_given : Given S → Inputs
-  inputs_given g = inputs_of (means g.inputs.source.now) (advances g.inputs.source.now) g.inputs.table.table.now g.inputs.plan.now g.text.now g.inputs.limit
+  inputs_given g =
+      inputs_of (means g.inputs.source.now) (advances g.inputs.source.now)
+      g.inputs.table.table.now g.inputs.plan.now g.text.now g.inputs.limit
 
   abbrev pub asked : Call (Given S) → Asked
   asked (Shape g) = Shape (inputs_given g)
@@ -58,20 +60,27 @@ pub record Desktop : Type 0 where
 
 abbrev pub desktop : List Answer → List (Option Slip) → (memory own copies : Lent) → Desktop
 desktop answers hand m own copies =
-    record { answers = map said_by answers; hand = hand; memory = lent m; own = lent own; copies = lent copies }
+    record {
+      answers = map said_by answers;
+      hand = hand;
+      memory = lent m;
+      own = lent own;
+      copies = lent copies;
+    }
 
--- A list of calls was performed on the paragraph of a number, as many as there are places for answers: what was lent before, what it holds now, and how many slips were waived at the end.
-pub record Performed (number : ℕ) (calls : List Asked) (before after : Desktop) (waived : ℕ) : Type 0 where
-  pub run : Run (start number before.hand before.memory before.own) (take (length before.answers) calls)
+-- A list of calls was performed on the paragraph of a number, as many as there are places for
+-- answers: what was lent before, what it holds now, and how many slips were waived at the end.
+pub record Performed (number : ℕ) (calls : List Asked)
+    (old new : Desktop) (waived : ℕ) : Type 0 where
+  pub run :
+      Run (start number old.hand old.memory old.own) (take (length old.answers) calls)
   -- what was said, and behind it the answers that were there
-  pub answers : after.answers ≡ run.said ++ drop (length run.said) before.answers
-  pub hand : after.hand ≡ run.last.hand
-  pub memory : after.memory ≡ run.last.memory
-  pub own : after.own ≡ run.last.own
-  pub run_copies : after.copies.run ≡ laid_over run.gave.run before.copies.run
-  pub marks_copies : after.copies.marks ≡ laid_over run.gave.marks before.copies.marks
+  pub answers : new.answers ≡ run.said ++ drop (length run.said) old.answers
+  pub hand : new.hand ≡ run.last.hand
+  pub memory : new.memory ≡ run.last.memory
+  pub own : new.own ≡ run.last.own
+  pub run_copies : new.copies.run ≡ laid_over run.gave.run old.copies.run
+  pub marks_copies : new.copies.marks ≡ laid_over run.gave.marks old.copies.marks
   pub ended : waived ≡ count_by is_waived run.at_end
   pub lawful : Lawful number run.made run.last.subject run.last.memory
-  -- nothing is owed, and as many slips lie in the hand as before
   pub settled : owed_by run.last.subject ≡ 0
-  pub slips : slips_in after.hand ≡ slips_in before.hand

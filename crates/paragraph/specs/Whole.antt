@@ -18,10 +18,12 @@ abbrev pub IsWritten : {A : Type 0} → (at : ℕ) → (list old now : List A) �
 IsWritten at list old now = (at ≡ min (length list) (length old)) × (now ≡ laid_over list old)
 
 abbrev pub AreWritten : Copied → (gave old now : Memory) → Type 0
-AreWritten c gave old now = IsWritten c.glyphs gave.run old.run now.run × IsWritten c.marks gave.marks old.marks now.marks
+AreWritten c gave old now =
+    IsWritten c.glyphs gave.run old.run now.run × IsWritten c.marks gave.marks old.marks now.marks
 
 -- A waive of each place in use was performed: so many were waived, and the hand is this one.
 abbrev pub AllWaived : Desk → (hand : List (Option Slip)) → (waived : ℕ) → Type 0
 AllWaived d hand waived =
-    (s : Subject) × (said : List Said) × (hs : List (Call × Answer)) × Performs d (waives d.used) said hs nothing (desk s hand d.used d.memory d.own)
+    (s : Subject) × (said : List Said) × (hs : List (Call × Answer))
+    × Performs d (waives d.used) said hs nothing (desk s hand d.used d.memory d.own)
     × (waived ≡ count_by is_waived said)

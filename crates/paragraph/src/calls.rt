@@ -10,7 +10,8 @@ pub struct Given<'a, S: FontSource> {
     pub text: &'a [u32],
 }
 
-// A call of a list. Shape brings what it is asked with: `Given` where the call is made, and nothing in a script. Pay and waive name a slip by its place in the hand, counted from 1.
+// A call of a list. Shape brings what it is asked with: `Given` where the call is made, and nothing
+// in a script. Pay and waive name a slip by its place in the hand, counted from 1.
 #[derive(Clone, Copy, Debug, PartialEq)]
 pub enum Call<T> {
     Shape(T),
@@ -20,7 +21,8 @@ pub enum Call<T> {
     Clear,
 }
 
-// What a call of a list answered. How many glyphs and marks a text or a line has: they stand in the copies.
+// What a call of a list answered. How many glyphs and marks a text or a line has: they stand in the
+// copies.
 #[derive(Clone, Copy, Debug, PartialEq)]
 pub enum Answer {
     // The paragraph does not know the call now.

@@ -183,7 +183,8 @@ fn shaped_call<'a, S: FontSource>(
         → let x = inputs_given S.FontSource.means advances given.now in
         Takes (asked S.FontSource.means advances call.now) (said_by result.0)
         (desk (shaped_from x shaped) hand.old used.old (lent memory.now) (lent own.old))
-        (desk (subject_in S.FontSource.means advances result.1) hand.new used.new (lent memory.now) (lent own.new)) }
+        (desk (subject_in S.FontSource.means advances result.1)
+        hand.new used.new (lent memory.now) (lent own.new)) }
 {
     match call {
         Call::Shape(_) => (Answer::Unknown, Whole::Shaped(shaped, given)),
@@ -215,8 +216,10 @@ fn make<'a, S: FontSource>(
     requires empty { slips_in (drop used.old hand.old) ≡ 0 }
     ensures { (advances : S → ℕ → ℕ)
         → Takes (asked S.FontSource.means advances call.now) (said_by result.0)
-        (desk (subject_in S.FontSource.means advances whole.entry) hand.old used.old (lent memory.old) (lent own.old))
-        (desk (subject_in S.FontSource.means advances result.1) hand.new used.new (lent memory.new) (lent own.new)) }
+        (desk (subject_in S.FontSource.means advances whole.entry)
+        hand.old used.old (lent memory.old) (lent own.old))
+        (desk (subject_in S.FontSource.means advances result.1)
+        hand.new used.new (lent memory.new) (lent own.new)) }
 {
     match whole {
         Whole::Blank(blank) => blank_call(blank, call, memory),
@@ -224,7 +227,8 @@ fn make<'a, S: FontSource>(
     }
 }
 
-// Copies so many elements, as far as there is room, behind those that are there. Answers how many there are then.
+// Copies so many elements, as far as there is room, behind those that are there. Answers how many
+// there are then.
 fn copy_behind<T: Copy>(to: &mut [T], there: usize, from: &[T], count: usize) -> usize
     ensures { (list old : List T) → IsWritten there list old to.old
         → IsWritten result (list ++ take count from.now) old to.new }
@@ -245,7 +249,8 @@ struct Copied {
 impl Copied {
     fn add(&mut self, copies: &mut Memory, from: &Memory, glyphs: usize, marks: usize)
         ensures { (gave old : AnyMemory) → AreWritten self.old gave old (lent copies.old)
-            → AreWritten self.new (joined gave (first_of (lent from.now) glyphs marks)) old (lent copies.new) }
+            → let new = joined gave (first_of (lent from.now) glyphs marks) in
+            AreWritten self.new new old (lent copies.new) }
     {
         let run = copies.run.as_mut_slice();
         self.glyphs = copy_behind(run, self.glyphs, from.run.as_slice(), glyphs);
@@ -310,7 +315,11 @@ fn waive_all<S: FontSource>(whole: Whole<'_, S>, hand: &mut [Option<Slip>], used
     }
 }
 
-// Performs a list of calls on a paragraph from its making, as many as there are places for answers. Pay has memory of its own; each call but shape gets what the accepted shape was asked with. The hand may hold slips that are not this paragraph's: they stay. Slips that lines give go behind them, and those that are owed at the end are waived: answers how many. What accepted shapes and pays gave is copied, one behind the other, as far as there is room.
+// Performs a list of calls on a paragraph from its making, as many as there are places for answers.
+// Pay has memory of its own; each call but shape gets what the accepted shape was asked with. The
+// hand may hold slips that are not this paragraph's: they stay. Slips that lines give go behind
+// them, and those that are owed at the end are waived: answers how many. What accepted shapes and
+// pays gave is copied, one behind the other, as far as there is room.
 pub fn perform<S: FontSource>(
     number: u32,
     calls: &[Call<Given<'_, S>>],
@@ -324,6 +333,7 @@ pub fn perform<S: FontSource>(
         → Performed number (all_asked S.FontSource.means advances calls.now)
         (desktop answers.old hand.old memory.old own.old copies.old)
         (desktop answers.new hand.new memory.new own.new copies.new) result }
+    ensures slips { slips_in hand.new ≡ slips_in hand.old }
     ensures law { CuttingLaw }
 {
     let mut whole = Whole::Blank(BlankParagraph::new(number));

@@ -105,7 +105,8 @@ fn list<'a>(
     Ok(calls)
 }
 
-// Two shapes with inputs of their own, a slip that is not the paragraph's, one that is paid, one that is waived at the end, and a line for whose slip no place is left.
+// Two shapes with inputs of their own, a slip that is not the paragraph's, one that is paid, one
+// that is waived at the end, and a line for whose slip no place is left.
 #[test]
 fn a_list_of_calls(rt: HostRuntime) -> Result<(), Fail> {
     let heap = rt.alloc();

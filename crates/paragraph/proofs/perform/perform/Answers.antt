@@ -1,5 +1,6 @@
 use Rattle.std.proofs.Common.{◌≡◌, ◌++◌, [], length, map, min, take, refl, sym, ap, ◌∙◌, subst, arith}
 use Rattle.std.proofs.lemmas.List.{append-nil, length-map, length-take, take_all}
+use Rattle.paragraph.specs.Hand.{slips_in}
 use Rattle.paragraph.specs.Law.{made}
 use Rattle.paragraph.specs.Performs.{Performs, Run, begun, desk, given_by, in_front, joined, nothing, on, start, still_blank, waives}
 use Rattle.paragraph.specs.SaidBy.{all_asked, asked, laid_over, lent, said_by}
@@ -75,5 +76,9 @@ returns-clause-performed g c = λ advances.
       ended = ended.4;
       lawful = lawful c.args.number begin made all;
       settled = settled c.args.number c.args.hand.now m own (take (length (map said_by c.args.answers.now)) list) run;
-      slips = as-many c.args.number c.args.hand.now m own (take (length (map said_by c.args.answers.now)) list) run;
     }
+
+pub returns-clause-slips : goal.returns-clause-slips
+returns-clause-slips g c =
+    let done = returns-clause-performed g c (λ s n. 0) in
+    ap slips_in done.hand ∙ as-many c.args.number c.args.hand.now (lent c.args.memory.now) (lent c.args.own.now) (take (length (map said_by c.args.answers.now)) (all_asked g.S.FontSource.means (λ s n. 0) c.args.calls.now)) done.run
