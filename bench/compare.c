@@ -8,21 +8,21 @@
 #include <string.h>
 #include <time.h>
 
-/* crates/shape_c */
-typedef struct { uint16_t lookup, alternate; } PlanEntry;
-typedef struct { uint16_t glyph; uint32_t cluster; } RunGlyph;
-typedef struct { uint32_t refused, hits; size_t glyphs; } Answer;
+/* crates/shape_c; docs/FORMATS.md describes it. */
+typedef struct { uint16_t lookup, alternate; } Entry;
+typedef struct { uint16_t glyph; uint32_t cluster; } Glyph;
+typedef struct { uint32_t kind, number, table, lookup, subtable, hits; size_t glyphs, structure, byte; } Answer;
 extern Answer mitqorad_shape(const uint8_t *gsub, size_t gsub_length, const uint8_t *cmap, size_t cmap_length,
-                             const uint8_t *gdef, size_t gdef_length, const PlanEntry *plan, size_t plan_length,
-                             uint32_t limit, uint32_t before, const uint32_t *text, size_t length,
-                             RunGlyph *run, size_t room, uint8_t *marks, size_t marks_length);
+                             const uint8_t *gdef, size_t gdef_length, const Entry *plan, size_t plan_length,
+                             uint32_t limit, const uint32_t *text, size_t length,
+                             Glyph *run, size_t room, uint8_t *marks, size_t marks_length);
 
 enum { ROOM = 65535, LIMIT = 1000000 };
 
 typedef struct { uint8_t *bytes; size_t length; } File;
 
 static File gsub, cmap, gdef, plan, text;
-static RunGlyph run[ROOM];
+static Glyph run[ROOM];
 static uint8_t marks[ROOM];
 
 static File file(const char *folder, const char *name, const char *kind) {
@@ -42,15 +42,17 @@ static double now(void) {
     return time.tv_sec + time.tv_nsec * 1e-9;
 }
 
-/* Ours */
+/* Ours. Each call checks the tables, which calls with an empty text do alone: their time is taken off (`seconds`). */
 
-static Answer ours(size_t length, uint32_t times) {
+static Answer ours(size_t length) {
     return mitqorad_shape(gsub.bytes, gsub.length, cmap.bytes, cmap.length, gdef.bytes, gdef.length,
-                          (PlanEntry *)plan.bytes, plan.length / sizeof(PlanEntry), LIMIT, times,
+                          (Entry *)plan.bytes, plan.length / sizeof(Entry), LIMIT,
                           (uint32_t *)text.bytes, length, run, ROOM, marks, ROOM);
 }
 
-static void time_ours(size_t length, uint32_t times) { ours(length, times); }
+static void time_ours(size_t length, uint32_t times) {
+    while (times--) ours(length);
+}
 
 /* HarfBuzz */
 
@@ -86,24 +88,28 @@ static void time_harfbuzz(size_t length, uint32_t times) {
     }
 }
 
-/* Seconds of one shaping: the best of seven, each long enough to be told from what surrounds it. */
-static double seconds(void shape(size_t, uint32_t), size_t length) {
+/* The least time of seven that so many calls took. */
+static double least(void shape(size_t, uint32_t), size_t length, uint32_t times) {
     double best = 1e9;
+    for (int round = 0; round < 7; round++) {
+        double begin = now();
+        shape(length, times);
+        double spent = now() - begin;
+        if (spent < best) best = spent;
+    }
+    return best;
+}
+
+/* Seconds of one shaping: so many calls with the text, less as many with an empty text, of which each does what a call
+   does besides shaping. So many are made that they can be told from what surrounds them. */
+static double seconds(void shape(size_t, uint32_t), size_t length) {
     uint32_t times = 1;
     for (;; times *= 2) {
         double begin = now();
         shape(length, times);
         if (now() - begin > 0.1 || times > 1 << 20) break;
     }
-    for (int round = 0; round < 7; round++) {
-        double start = now();
-        shape(length, 0);
-        double begin = now();
-        shape(length, times);
-        double spent = (now() - begin) - (begin - start);
-        if (spent / times < best) best = spent / times;
-    }
-    return best;
+    return (least(shape, length, times) - least(shape, 0, times)) / times;
 }
 
 /* How many glyphs differ in glyph, cluster, or whether it is unsafe to break before the cluster. */
@@ -135,8 +141,8 @@ int main(int count, char **words) {
         font = hb_font_create(face);
         buffer = hb_buffer_create();
         double us = seconds(time_ours, length), whole = seconds(time_harfbuzz, length);
-        Answer answer = ours(length, 0);
-        if (answer.refused) { printf("%s: refused %u\n", name, answer.refused); return 1; }
+        Answer answer = ours(length);
+        if (answer.kind) { printf("%s: kind %u, number %u\n", name, answer.kind, answer.number); return 1; }
         feature.value = 1;
         time_harfbuzz(length, 1);
         size_t differ = differences(answer.glyphs);

@@ -1,5 +1,5 @@
 -- Words of a line: how many there are where a space parts it, and what they can say.
-use Rattle.std.proofs.Common.{◌≡◌, ◌≢◌, ◌<◌, ◌==◌, ℕ, List, [], ◌∷◌, Bool, true, false, Option, None, Some, IfSome, SomeIff, All, cond, codes, length, Bor, refl, sym, ap, ◌∙◌, subst, ap₂, arith, eqb-true}
+use Rattle.std.proofs.Common.{◌≡◌, ◌≢◌, ◌<◌, ◌==◌, ℕ, List, [], ◌∷◌, Bool, true, false, Option, None, Some, IfSome, All, codes, length, Bor, refl, sym, ap, ◌∙◌, subst, ap₂, arith, eqb-true}
 use Rattle.std.proofs.lemmas.List.Splits.{slice_split_none, slice_split_first, length-slice_split, join_with_byte-slice_split}
 use Rattle.std.proofs.lemmas.List.Elements.{All-cons}
 use Rattle.std.proofs.lemmas.List.Sums.{fails_before_first}

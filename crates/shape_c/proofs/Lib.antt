@@ -1,1 +1,2 @@
-pub mod Answered
+mod Ends
+pub mod Turns

@@ -1,1 +1,2 @@
-pub mod InC
+pub mod Answers
+pub mod Calls

@@ -1,4 +1,4 @@
-use Rattle.std.proofs.Common.{◌==◌, ◌+◌, ◌≡◌, None, Option, SomeIff, length, take, drop, map, refl, subst, ap, sym, ◌∙◌, lit<}
+use Rattle.std.proofs.Common.{◌==◌, ◌+◌, SomeIff, length, take, drop, subst, ap, sym, ◌∙◌, lit<}
 use Rattle.std.specs.List.{AllByRecursion, slice_split}
 use Rattle.std.proofs.lemmas.Iterator.Consumers.{YieldsList-end, YieldsList-turn, count_from_yields_List}
 use Rattle.std.proofs.lemmas.Iterator.Splits.{YieldsList-from_str_split}

@@ -1,5 +1,5 @@
-use Rattle.std.proofs.Common.{◌==◌, ◌≡◌, ◌+◌, ◌<◌, ◌++◌, ◌∷◌, [], ℕ, List, Bor, length, take, drop, map, set, subst, ap, sym, ◌∙◌, lit<, arith}
-use Rattle.std.specs.List.{AllByRecursion, slice_split, enumerate_from}
+use Rattle.std.proofs.Common.{◌==◌, ◌≡◌, ◌++◌, ◌∷◌, [], ℕ, List, Bor, length, map, set, subst, ap, sym, ◌∙◌, lit<, arith}
+use Rattle.std.specs.List.{AllByRecursion, slice_split}
 use Rattle.std.specs.Str.Parse.{digits_value}
 use Rattle.std.proofs.lemmas.Iterator.Consumers.{YieldsList-end, YieldsList-so_far, YieldsList-turn, YieldsList-from_enumerate}
 use Rattle.std.proofs.lemmas.Iterator.Splits.{YieldsList-from_str_split}

@@ -1,4 +1,4 @@
-use Rattle.std.proofs.Common.{◌≡◌, List, ℕ, Bor, is_none, true, false, map, [], ◌∷◌, subst, sym, ◌∙◌}
+use Rattle.std.proofs.Common.{List, ℕ, Bor, map, [], ◌∷◌, subst, sym}
 use Rattle.std.specs.List.{AllByRecursion}
 use Rattle.std.specs.Str.Lines.{lines}
 use Rattle.std.specs.Str.Parse.{digits_value}
