@@ -74,7 +74,7 @@ impl<'a> Content<'a> {
     }
 
     // The calls of a script, one a line.
-    pub fn calls(&self, heap: Global) -> Result<Vec<Call>, Failure> {
+    pub fn calls(&self, heap: Global) -> Result<Vec<Call<()>>, Failure> {
         let should_be = "a call: shape, line A B, pay K, waive K or clear";
         script(heap, self.bytes.as_slice()).map_err(|error| self.failure(heap, error, should_be))
     }

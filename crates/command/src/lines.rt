@@ -1,11 +1,12 @@
 use crate::failure::Failure;
 use crate::files::Files;
+use crate::performed::Part;
 use crate::setup::Setup;
 use asking::asked::ShapeOptions;
 use asking::usage::UsageError;
 use font::source::{MeasuredSource, run_width};
 use model::Glyph;
-use paragraph::calls::{Answer, Call, Copied};
+use paragraph::calls::{Answer, Call};
 use parsing::list::numbers_of;
 use pick::line::pick;
 use report::{marks_line, records_line};
@@ -47,9 +48,9 @@ fn lines_between(heap: Global, breaks: &[u32], length: u32) -> Result<Vec<Ends>,
 }
 
 // The text is shaped, each line is given out, and each slip that there may be is paid.
-fn calls_for(heap: Global, lines: &[Ends]) -> Result<Vec<Call>, AllocError> {
+fn calls_for(heap: Global, lines: &[Ends]) -> Result<Vec<Call<()>>, AllocError> {
     let mut calls = Vec::new(heap);
-    calls.push(Call::Shape)?;
+    calls.push(Call::Shape(()))?;
     for line in lines {
         let (a, b) = (line.from, line.to);
         calls.push(Call::Line { a, b })?;
@@ -60,12 +61,13 @@ fn calls_for(heap: Global, lines: &[Ends]) -> Result<Vec<Call>, AllocError> {
     Ok(calls)
 }
 
-// What lines are printed from: the text as a whole, and what the slips were paid with, in their order.
+// What lines are printed from: the text as a whole, and how the slips were paid, in their order.
 #[derive(Clone, Copy)]
 struct Given<'a, S: MeasuredSource> {
     heap: Global,
     source: &'a S,
-    whole: &'a Copied,
+    whole: Part<'a>,
+    hits: u32,
     payments: &'a [Answer],
 }
 
@@ -86,45 +88,50 @@ impl<S: MeasuredSource> Given<'_, S> {
         };
         let mut run = vec![in self.heap; blank; count]?;
         pick(
-            self.whole.run.as_slice(),
+            self.whole.run,
             ends.from,
             ends.to,
             run.as_mut_slice(),
         )?;
-        let marks = self.whole.marks.as_slice();
-        let marks = marks
+        let marks = self
+            .whole
+            .marks
             .get(ends.from as usize..ends.to as usize)
             .unwrap_or(&[]);
         self.line(ends, "kept", run.as_slice(), marks)
     }
 
-    fn paid(&self, ends: Ends, slip: usize) -> Result<String, Failure> {
+    // A line that was paid for, with what was given from it on.
+    fn paid(&self, ends: Ends, slip: usize, rest: &mut Part<'_>) -> Result<String, Failure> {
         match self.payments.get(slip.saturating_sub(1)) {
-            Some(Answer::Paid(copy)) => self.line(
-                ends,
-                "paid",
-                copy.run.as_slice(),
-                copy.marks.as_slice(),
-            ),
+            Some(Answer::Paid {
+                glyphs,
+                marks,
+                hits: _,
+            }) => {
+                let part = rest.take(*glyphs, *marks);
+                self.line(ends, "paid", part.run, part.marks)
+            }
             Some(Answer::Refused(refusal)) => Err(Failure::Refused(*refusal)),
             _ => Err(Failure::Unanswered),
         }
     }
 
-    fn said(&self, ends: Ends, answer: &Answer) -> Result<String, Failure> {
+    fn said(&self, ends: Ends, answer: &Answer, rest: &mut Part<'_>) -> Result<String, Failure> {
         match answer {
             Answer::Kept { first: _, count } => self.kept(ends, *count),
-            Answer::Owed { slip } => self.paid(ends, *slip),
+            Answer::Owed { slip } => self.paid(ends, *slip, rest),
             Answer::Refused(refusal) => Err(Failure::Refused(*refusal)),
             _ => Err(Failure::Unanswered),
         }
     }
 
-    // The lines, and their sums.
-    fn page(&self, lines: &[Ends], answers: &[Answer]) -> Result<String, Failure> {
+    // The lines, with what was paid for in their order, and their sums.
+    fn page(&self, lines: &[Ends], answers: &[Answer], paid: Part<'_>) -> Result<String, Failure> {
+        let mut rest = paid;
         let mut page = String::new(self.heap);
         for (ends, answer) in lines.iter().zip(answers.iter()) {
-            page.push_str(self.said(*ends, answer)?.as_str())?;
+            page.push_str(self.said(*ends, answer, &mut rest)?.as_str())?;
         }
         let count = lines.len();
         let kept = answers
@@ -135,8 +142,8 @@ impl<S: MeasuredSource> Given<'_, S> {
             .iter()
             .filter(|answer| matches!(answer, Answer::Owed { slip: _ }))
             .count();
-        let hits = self.whole.hits;
-        let width = run_width(self.source, self.whole.run.as_slice())?;
+        let hits = self.hits;
+        let width = run_width(self.source, self.whole.run)?;
         page.push_str(format!(in self.heap;
             "lines: {count}, kept: {kept}, paid: {paid}, hits: {hits}, width: {width}\n"
         )?.as_str())?;
@@ -158,16 +165,25 @@ pub fn lines<F: Files, S: MeasuredSource>(
     let lines = lines_between(heap, breaks.as_slice(), length)?;
     let calls = calls_for(heap, lines.as_slice())?;
     let setup = Setup::read(files, asked)?;
-    let answered = setup.perform(heap, source, text, calls.as_slice())?;
-    match answered.answers.as_slice() {
-        [Answer::Shaped(whole), rest @ ..] => {
+    let performed = setup.perform(heap, source, text, calls.as_slice())?;
+    let mut parts = Part::of(&performed.copies);
+    match performed.answers.as_slice() {
+        [
+            Answer::Shaped {
+                glyphs,
+                marks,
+                hits,
+            },
+            rest @ ..,
+        ] => {
             let given = Given {
                 heap,
                 source,
-                whole,
+                whole: parts.take(*glyphs, *marks),
+                hits: *hits,
                 payments: rest.get(lines.len()..).unwrap_or(&[]),
             };
-            given.page(lines.as_slice(), rest)
+            given.page(lines.as_slice(), rest, parts)
         }
         [Answer::Refused(refusal), ..] => Err(Failure::Refused(*refusal)),
         _ => Err(Failure::Unanswered),

@@ -12,10 +12,10 @@ use Rattle.paragraph.specs.Law.{EachAlone, History, Outlasts, Right, ShapedAlone
 use Rattle.paragraph.specs.Example.{Refuted, Worked, calls, course, fix, fresh, full, no_room, paragraph, room_for_two, slip, untied}
 use Rattle.paragraph.proofs.Alone.{shaping_inputs}
 
-shapes : Step fix fresh (is_blank 7) shape done (is_shaped (paragraph 0)) full
+pub shapes : Step fix fresh (is_blank 7) shape done (is_shaped (paragraph 0)) full
 shapes = (shaped _, (_, omega arith, inl (_, hits refl refl (misses refl refl (ends refl refl)), refl), refl), refl, refl, refl)
 
-pays : Step fix full (is_shaped (paragraph 1)) (pay slip (room_for_two (0 ∶ 0) (8 ∷ 8 ∷ []))) (gives (paid 0 1 1 0 (room_for_two (1 ∶ 0) (0 ∷ 0 ∷ [])))) (is_shaped (paragraph 0)) full
+pub pays : Step fix full (is_shaped (paragraph 1)) (pay slip (room_for_two (0 ∶ 0) (8 ∷ 8 ∷ []))) (gives (paid 0 1 1 0 (room_for_two (1 ∶ 0) (0 ∷ 0 ∷ [])))) (is_shaped (paragraph 0)) full
 pays = (shaped _, (_, omega arith, inl (_, misses refl refl (ends refl refl), refl), refl), refl, refl, refl)
 
 first : History 7 calls (is_shaped (paragraph 0)) (course (paid 0 1 1 0 (room_for_two (1 ∶ 0) (0 ∷ 0 ∷ [])) ∷ kept 0 2 0 1 ∷ []))

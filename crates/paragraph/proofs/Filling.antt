@@ -19,7 +19,7 @@ tells-outcome (Err refusal) (refused n) e = cc
 tells-outcome (Ok laid) (shaped w) e = (w, refl, cc, cc)
 tells-outcome (Err refusal) (shaped w) e = absurd cc
 
-same-memory : {run run' : List Glyph} {marks marks' : List ℕ} → run ≡ run' → marks ≡ marks' → memory run marks ≡ memory run' marks'
+pub same-memory : {run run' : List Glyph} {marks marks' : List ℕ} → run ≡ run' → marks ≡ marks' → memory run marks ≡ memory run' marks'
 same-memory e f i = record { run = e i; marks = f i }
 
 filled-is : (o : Outcome) (m : Memory) → memory (run_left o (length m.run)) (marks_left o (length m.marks)) ≡ filled o m

@@ -4,4 +4,10 @@ pub mod Kept
 pub mod Sound
 pub mod Steps
 pub mod Example
+pub mod Nine
+pub mod Hands
+pub mod Written
+pub mod Waives
+pub mod Listed
+pub mod Settling
 pub mod Performing

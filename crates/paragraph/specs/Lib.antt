@@ -3,5 +3,8 @@ pub mod Step
 pub mod Law
 pub mod Told
 pub mod Example
+pub mod Nine
+pub mod Hand
 pub mod Performs
 pub mod SaidBy
+pub mod Whole

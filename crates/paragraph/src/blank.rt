@@ -2,6 +2,7 @@ ghost use Rattle.std.specs.Prelude.{◌≡◌, ℕ};
 ghost use Rattle.paragraph.specs.Calls.{is_blank, shape};
 ghost use Rattle.paragraph.specs.Example.{Refuted, Worked};
 ghost use Rattle.paragraph.specs.Law.{CuttingLaw};
+ghost use Rattle.paragraph.specs.Nine.{NineExamples};
 ghost use Rattle.paragraph.specs.Step.{Step};
 ghost use Rattle.paragraph.specs.Told.{inputs_of, memory, shape_left, shape_told};
 
@@ -25,6 +26,7 @@ impl Blank {
         ensures law { CuttingLaw }
         ensures worked { Worked }
         ensures refuted { Refuted }
+        ensures examples { NineExamples }
     {
         Blank { number }
     }

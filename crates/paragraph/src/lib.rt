@@ -4,9 +4,12 @@
 pub mod blank;
 pub mod calls;
 mod fill;
+mod hand;
 pub mod line;
 pub mod perform;
 pub mod refusal;
 pub mod shaped;
 pub mod slip;
+#[cfg(test)]
+mod tests;
 pub mod width;

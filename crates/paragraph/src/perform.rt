@@ -1,321 +1,353 @@
-ghost use Rattle.std.specs.Prelude.{◌≡◌, ◌-◌, ℕ, List, Option, take, slice_set, map, IfOk, Some, None};
+ghost use Rattle.std.specs.Prelude.{◌≡◌, ◌≤◌, ℕ, if◌then◌else◌, List, ◌++◌, Option, drop, take};
 ghost use Rattle.paragraph.specs.declared.calls.Call.TheVariants.{Shape, Line as LineOf, Pay, Waive, Clear};
-ghost use Rattle.paragraph.specs.Calls.{Answer as OneAnswer, Call as OneCall, Inputs as AllInputs, Memory, is_blank, is_shaped};
-ghost use Rattle.paragraph.specs.Performs.{Does, Performed, in_hand, owed_by};
-ghost use Rattle.paragraph.specs.SaidBy.{desk, hand_of, paragraph_of, said_by, slip_in};
-ghost use Rattle.paragraph.specs.Told.{inputs_of, memory};
+ghost use Rattle.paragraph.specs.Calls.{Inputs as AllInputs, Memory as AnyMemory};
+ghost use Rattle.paragraph.specs.Hand.{slips_in};
+ghost use Rattle.paragraph.specs.Law.{CuttingLaw};
+ghost use Rattle.paragraph.specs.Performs.{Desk, Subject, Takes, desk, first_of, given_by, is_waived, joined, nothing, shaped_from, still_blank};
+ghost use Rattle.paragraph.specs.SaidBy.{Performed, all_asked, asked, desktop, inputs_given, lent, said_by};
+ghost use Rattle.paragraph.specs.Whole.{AllWaived, AreWritten, IsWritten, subject_in};
 
 use crate::blank::Blank as BlankParagraph;
-use crate::calls::{Answer, Call, Copied};
+use crate::calls::{Answer, Call, Given, Memory};
+use crate::hand::{places_used, put_slip, take_slip};
 use crate::line::Line;
 use crate::shaped::Shaped as ShapedParagraph;
 use crate::slip::Slip;
 use font::source::FontSource;
-use model::Glyph;
-use shaping::shape::Inputs;
-use std::alloc::{AllocError, Global};
 
-// A paragraph, blank or shaped.
-#[derive(Drop)]
-enum Whole {
+// A paragraph, blank, or shaped with what it was asked with.
+enum Whole<'a, S: FontSource> {
     Blank(BlankParagraph),
-    Shaped(ShapedParagraph),
+    Shaped(ShapedParagraph, &'a Given<'a, S>),
 }
 
-// A slip as numbers: it is here until it is paid or waived.
-#[derive(Clone, Copy)]
-struct Held {
-    number: u32,
-    first: u32,
-    last: u32,
-    here: bool,
-}
-
-// What a list of calls answered, call by call, and how many slips are owed at its end.
-#[derive(Drop)]
-pub struct Answered {
-    pub answers: Vec<Answer>,
-    pub owed: u16,
-}
-
-// A copy of so many records and marks.
-fn copied(
-    heap: Global,
-    run: &[Glyph],
-    count: usize,
-    marks: &[u8],
-    length: usize,
-    hits: u32,
-) -> Result<Copied, AllocError>
-    ensures { IfOk result (λ copy. (copy.run.items ≡ take count run.now) × (copy.marks.items ≡ take length marks.now) × (copy.hits ≡ hits)) }
-{
-    let mut glyphs = Vec::new(heap);
-    glyphs.extend_from_slice(&run[..count.min(run.len())])?;
-    let mut bytes = Vec::new(heap);
-    bytes.extend_from_slice(&marks[..length.min(marks.len())])?;
-    Ok(Copied {
-        run: glyphs,
-        marks: bytes,
-        hits,
-    })
-}
-
-// The slip with a number.
-fn find(hand: &[Held], slip: usize) -> Option<Slip>
-    ensures { result ≡ in_hand (hand_of hand.now) slip }
-{
-    let held = hand.get(slip.checked_sub(1)?)?;
-    if !held.here {
-        return None;
-    }
-    Some(Slip {
-        number: held.number,
-        first: held.first,
-        last: held.last,
-    })
-}
-
-// A slip that was given out.
-fn keep(slip: Slip) -> Held
-    ensures { slip_in result ≡ Some slip }
-{
-    let Slip {
-        number,
-        first,
-        last,
-    } = slip;
-    Held {
-        number,
-        first,
-        last,
-        here: true,
-    }
-}
-
-// The slip with a number is no longer in hand.
-fn take_out(hand: &mut Vec<Held>, slip: usize)
-    ensures { hand_of hand.new.items ≡ slice_set (hand_of hand.old.items) (slip - 1) None }
-{
-    let at = slip.saturating_sub(1);
-    if at < hand.len() {
-        hand[at].here = false;
-    }
-}
-
-fn shape_call<S: FontSource>(
-    heap: Global,
+fn shape_call<'a, S: FontSource>(
     blank: BlankParagraph,
-    inputs: &Inputs<'_, S>,
-    text: &[u32],
-    run: &mut [Glyph],
-    marks: &mut [u8],
-) -> Result<(Answer, Whole), AllocError>
-    ensures { (advance : ℕ → ℕ) (hand : List Held) (own : Memory) → IfOk result (λ p. (h : Option (OneCall × OneAnswer)) × Does (inputs_of (S.FontSource.means inputs.now.source.now) advance inputs.now.table.table.now inputs.now.plan.now text.now inputs.now.limit) Shape (said_by p.0) (desk (is_blank blank.number) hand (memory run.old marks.old) own) h (desk (paragraph_of p.1) hand (memory run.new marks.new) own)) }
+    given: &'a Given<'a, S>,
+    memory: &mut Memory,
+) -> (Answer, Whole<'a, S>)
+    ensures { (advances : S → ℕ → ℕ) (hand : List (Option Slip)) (used : ℕ) (own : AnyMemory)
+        → Takes (Shape (inputs_given S.FontSource.means advances given.now)) (said_by result.0)
+        (desk (still_blank blank.number) hand used (lent memory.old) own)
+        (desk (subject_in S.FontSource.means advances result.1) hand used (lent memory.new) own) }
 {
-    match blank.shape(inputs, text, run, marks) {
+    let Given { inputs, text } = given;
+    match blank.shape(
+        inputs,
+        text,
+        memory.run.as_mut_slice(),
+        memory.marks.as_mut_slice(),
+    ) {
         Ok(shaped) => {
-            let copy = copied(heap, run, shaped.count, marks, shaped.length, shaped.hits)?;
-            Ok((Answer::Shaped(copy), Whole::Shaped(shaped)))
+            let answer = Answer::Shaped {
+                glyphs: shaped.count,
+                marks: shaped.length,
+                hits: shaped.hits,
+            };
+            (answer, Whole::Shaped(shaped, given))
         }
-        Err((blank, refusal)) => Ok((Answer::Refused(refusal), Whole::Blank(blank))),
+        Err((blank, refusal)) => (Answer::Refused(refusal), Whole::Blank(blank)),
     }
 }
 
 fn line_call(
     shaped: &mut ShapedParagraph,
-    hand: &mut Vec<Held>,
+    hand: &mut [Option<Slip>],
+    used: &mut usize,
     a: u32,
     b: u32,
-    run: &[Glyph],
-    marks: &[u8],
-) -> Result<Answer, AllocError>
-    ensures { (x : AllInputs) (own : Memory) → IfOk result (λ answer. (h : Option (OneCall × OneAnswer)) × Does x (LineOf a b) (said_by answer) (desk (is_shaped shaped.old) hand.old.items (memory run.now marks.now) own) h (desk (is_shaped shaped.new) hand.new.items (memory run.now marks.now) own)) }
+    memory: &Memory,
+) -> Answer
+    requires empty { slips_in (drop used.old hand.old) ≡ 0 }
+    ensures { (x : AllInputs) (own : AnyMemory)
+        → Takes (LineOf a b) (said_by result)
+        (desk (shaped_from x shaped.old) hand.old used.old (lent memory.now) own)
+        (desk (shaped_from x shaped.new) hand.new used.new (lent memory.now) own) }
 {
-    match shaped.line(a, b, run, marks) {
-        Ok(Line::Kept { first, count }) => Ok(Answer::Kept { first, count }),
+    if *used >= hand.len() {
+        return Answer::NoPlace;
+    }
+    match shaped.line(a, b, memory.run.as_slice(), memory.marks.as_slice()) {
+        Ok(Line::Kept { first, count }) => Answer::Kept { first, count },
         Ok(Line::Owed(slip)) => {
-            hand.push(keep(slip))?;
-            let slips: &[Held] = hand;
-            Ok(Answer::Owed { slip: slips.len() })
+            put_slip(hand, *used, slip);
+            *used += 1;
+            Answer::Owed { slip: *used }
         }
-        Err(refusal) => Ok(Answer::Refused(refusal)),
+        Err(refusal) => Answer::Refused(refusal),
     }
 }
 
 fn pay_call<S: FontSource>(
-    heap: Global,
     shaped: &mut ShapedParagraph,
-    hand: &mut Vec<Held>,
+    given: &Given<'_, S>,
+    hand: &mut [Option<Slip>],
     slip: usize,
-    inputs: &Inputs<'_, S>,
-    text: &[u32],
-    run: &mut [Glyph],
-    marks: &mut [u8],
-) -> Result<Answer, AllocError>
-    ensures { (advance : ℕ → ℕ) (limit : ℕ) (m : Memory) → IfOk result (λ answer. (h : Option (OneCall × OneAnswer)) × Does (inputs_of (S.FontSource.means inputs.now.source.now) advance inputs.now.table.table.now inputs.now.plan.now text.now limit) (Pay slip) (said_by answer) (desk (is_shaped shaped.old) hand.old.items m (memory run.old marks.old)) h (desk (is_shaped shaped.new) hand.new.items m (memory run.new marks.new))) }
+    own: &mut Memory,
+) -> Answer
+    ensures { (advances : S → ℕ → ℕ) (used : ℕ) (memory : AnyMemory)
+        → let x = inputs_given S.FontSource.means advances given.now in
+        Takes (Pay slip) (said_by result)
+        (desk (shaped_from x shaped.old) hand.old used memory (lent own.old))
+        (desk (shaped_from x shaped.new) hand.new used memory (lent own.new)) }
 {
-    let Some(found) = find(hand, slip) else {
-        return Ok(Answer::NotInHand);
-    };
-    let length = found.last.saturating_sub(found.first) as usize;
-    match found.pay(shaped, inputs, text, run, marks) {
-        Ok(laid) => {
-            take_out(hand, slip);
-            let copy = copied(heap, run, laid.glyphs, marks, length, laid.hits)?;
-            Ok(Answer::Paid(copy))
-        }
-        Err((found, refusal)) => {
-            found.spend();
-            Ok(Answer::Refused(refusal))
-        }
-    }
-}
-
-fn waive_call(shaped: &mut ShapedParagraph, hand: &mut Vec<Held>, slip: usize) -> Answer
-    ensures { (x : AllInputs) (m own : Memory) → (h : Option (OneCall × OneAnswer)) × Does x (Waive slip) (said_by result) (desk (is_shaped shaped.old) hand.old.items m own) h (desk (is_shaped shaped.new) hand.new.items m own) }
-{
-    let Some(found) = find(hand, slip) else {
+    let Some(found) = take_slip(hand, slip) else {
         return Answer::NotInHand;
     };
-    match found.waive(shaped) {
-        Ok(()) => {
-            take_out(hand, slip);
-            Answer::Waived
-        }
+    let marks = found.last.saturating_sub(found.first) as usize;
+    let Given { inputs, text } = given;
+    match found.pay(
+        shaped,
+        inputs,
+        text,
+        own.run.as_mut_slice(),
+        own.marks.as_mut_slice(),
+    ) {
+        Ok(laid) => Answer::Paid {
+            glyphs: laid.glyphs,
+            marks,
+            hits: laid.hits,
+        },
         Err((found, refusal)) => {
-            found.spend();
+            put_slip(hand, slip - 1, found);
             Answer::Refused(refusal)
         }
     }
 }
 
-fn clear_call(shaped: ShapedParagraph) -> (Answer, Whole)
-    ensures { (x : AllInputs) (hand : List Held) (m own : Memory) → (h : Option (OneCall × OneAnswer)) × Does x Clear (said_by result.0) (desk (is_shaped shaped) hand m own) h (desk (paragraph_of result.1) hand m own) }
+fn waive_call(shaped: &mut ShapedParagraph, hand: &mut [Option<Slip>], slip: usize) -> Answer
+    ensures gives_nothing { (e : Desk) → given_by (said_by result) e ≡ nothing }
+    ensures takes { (x : AllInputs) (used : ℕ) (memory own : AnyMemory)
+        → Takes (Waive slip) (said_by result)
+        (desk (shaped_from x shaped.old) hand.old used memory own)
+        (desk (shaped_from x shaped.new) hand.new used memory own) }
+{
+    let Some(found) = take_slip(hand, slip) else {
+        return Answer::NotInHand;
+    };
+    match found.waive(shaped) {
+        Ok(()) => Answer::Waived,
+        Err((found, refusal)) => {
+            put_slip(hand, slip - 1, found);
+            Answer::Refused(refusal)
+        }
+    }
+}
+
+fn clear_call<'a, S: FontSource>(
+    shaped: ShapedParagraph,
+    given: &'a Given<'a, S>,
+) -> (Answer, Whole<'a, S>)
+    ensures { (advances : S → ℕ → ℕ) (hand : List (Option Slip)) (used : ℕ) (memory own : AnyMemory)
+        → let x = inputs_given S.FontSource.means advances given.now in
+        Takes Clear (said_by result.0)
+        (desk (shaped_from x shaped) hand used memory own)
+        (desk (subject_in S.FontSource.means advances result.1) hand used memory own) }
 {
     match shaped.clear() {
         Ok(blank) => (Answer::Cleared, Whole::Blank(blank)),
-        Err((shaped, refusal)) => (Answer::Refused(refusal), Whole::Shaped(shaped)),
+        Err((shaped, refusal)) => (Answer::Refused(refusal), Whole::Shaped(shaped, given)),
     }
 }
 
-fn blank_call<S: FontSource>(
-    heap: Global,
+fn blank_call<'a, S: FontSource>(
     blank: BlankParagraph,
-    call: Call,
-    inputs: &Inputs<'_, S>,
-    text: &[u32],
-    run: &mut [Glyph],
-    marks: &mut [u8],
-) -> Result<(Answer, Whole), AllocError>
-    ensures { (advance : ℕ → ℕ) (hand : List Held) (own : Memory) → IfOk result (λ p. (h : Option (OneCall × OneAnswer)) × Does (inputs_of (S.FontSource.means inputs.now.source.now) advance inputs.now.table.table.now inputs.now.plan.now text.now inputs.now.limit) call (said_by p.0) (desk (is_blank blank.number) hand (memory run.old marks.old) own) h (desk (paragraph_of p.1) hand (memory run.new marks.new) own)) }
+    call: &'a Call<Given<'a, S>>,
+    memory: &mut Memory,
+) -> (Answer, Whole<'a, S>)
+    ensures { (advances : S → ℕ → ℕ) (hand : List (Option Slip)) (used : ℕ) (own : AnyMemory)
+        → Takes (asked S.FontSource.means advances call.now) (said_by result.0)
+        (desk (still_blank blank.number) hand used (lent memory.old) own)
+        (desk (subject_in S.FontSource.means advances result.1) hand used (lent memory.new) own) }
 {
     match call {
-        Call::Shape => shape_call(heap, blank, inputs, text, run, marks),
-        Call::Line { a: _, b: _ } => Ok((Answer::Unknown, Whole::Blank(blank))),
-        Call::Pay { slip: _ } => Ok((Answer::Unknown, Whole::Blank(blank))),
-        Call::Waive { slip: _ } => Ok((Answer::Unknown, Whole::Blank(blank))),
-        Call::Clear => Ok((Answer::Unknown, Whole::Blank(blank))),
+        Call::Shape(given) => shape_call(blank, given, memory),
+        Call::Line { a: _, b: _ } => (Answer::Unknown, Whole::Blank(blank)),
+        Call::Pay { slip: _ } => (Answer::Unknown, Whole::Blank(blank)),
+        Call::Waive { slip: _ } => (Answer::Unknown, Whole::Blank(blank)),
+        Call::Clear => (Answer::Unknown, Whole::Blank(blank)),
     }
 }
 
-fn shaped_call<S: FontSource>(
-    heap: Global,
+fn shaped_call<'a, S: FontSource>(
     mut shaped: ShapedParagraph,
-    hand: &mut Vec<Held>,
-    call: Call,
-    inputs: &Inputs<'_, S>,
-    text: &[u32],
-    run: &[Glyph],
-    marks: &[u8],
-    own_run: &mut [Glyph],
-    own_marks: &mut [u8],
-) -> Result<(Answer, Whole), AllocError>
-    ensures { (advance : ℕ → ℕ) → IfOk result (λ p. (h : Option (OneCall × OneAnswer)) × Does (inputs_of (S.FontSource.means inputs.now.source.now) advance inputs.now.table.table.now inputs.now.plan.now text.now inputs.now.limit) call (said_by p.0) (desk (is_shaped shaped) hand.old.items (memory run.now marks.now) (memory own_run.old own_marks.old)) h (desk (paragraph_of p.1) hand.new.items (memory run.now marks.now) (memory own_run.new own_marks.new))) }
+    given: &'a Given<'a, S>,
+    call: &'a Call<Given<'a, S>>,
+    hand: &mut [Option<Slip>],
+    used: &mut usize,
+    memory: &Memory,
+    own: &mut Memory,
+) -> (Answer, Whole<'a, S>)
+    requires empty { slips_in (drop used.old hand.old) ≡ 0 }
+    ensures { (advances : S → ℕ → ℕ)
+        → let x = inputs_given S.FontSource.means advances given.now in
+        Takes (asked S.FontSource.means advances call.now) (said_by result.0)
+        (desk (shaped_from x shaped) hand.old used.old (lent memory.now) (lent own.old))
+        (desk (subject_in S.FontSource.means advances result.1)
+        hand.new used.new (lent memory.now) (lent own.new)) }
 {
     match call {
-        Call::Shape => Ok((Answer::Unknown, Whole::Shaped(shaped))),
+        Call::Shape(_) => (Answer::Unknown, Whole::Shaped(shaped, given)),
         Call::Line { a, b } => {
-            let answer = line_call(&mut shaped, hand, a, b, run, marks)?;
-            Ok((answer, Whole::Shaped(shaped)))
+            let answer = line_call(&mut shaped, hand, used, *a, *b, memory);
+            (answer, Whole::Shaped(shaped, given))
         }
         Call::Pay { slip } => {
-            let answer = pay_call(
-                heap,
-                &mut shaped,
-                hand,
-                slip,
-                inputs,
-                text,
-                own_run,
-                own_marks,
-            )?;
-            Ok((answer, Whole::Shaped(shaped)))
+            let answer = pay_call(&mut shaped, given, hand, *slip, own);
+            (answer, Whole::Shaped(shaped, given))
         }
         Call::Waive { slip } => {
-            let answer = waive_call(&mut shaped, hand, slip);
-            Ok((answer, Whole::Shaped(shaped)))
+            let answer = waive_call(&mut shaped, hand, *slip);
+            (answer, Whole::Shaped(shaped, given))
         }
-        Call::Clear => Ok(clear_call(shaped)),
+        Call::Clear => clear_call(shaped, given),
     }
 }
 
 // One call of a list.
-fn make<S: FontSource>(
-    heap: Global,
-    whole: Whole,
-    hand: &mut Vec<Held>,
-    call: Call,
-    inputs: &Inputs<'_, S>,
-    text: &[u32],
-    run: &mut [Glyph],
-    marks: &mut [u8],
-    own_run: &mut [Glyph],
-    own_marks: &mut [u8],
-) -> Result<(Answer, Whole), AllocError>
-    ensures { (advance : ℕ → ℕ) → IfOk result (λ p. (h : Option (OneCall × OneAnswer)) × Does (inputs_of (S.FontSource.means inputs.now.source.now) advance inputs.now.table.table.now inputs.now.plan.now text.now inputs.now.limit) call (said_by p.0) (desk (paragraph_of whole) hand.old.items (memory run.old marks.old) (memory own_run.old own_marks.old)) h (desk (paragraph_of p.1) hand.new.items (memory run.new marks.new) (memory own_run.new own_marks.new))) }
+fn make<'a, S: FontSource>(
+    whole: Whole<'a, S>,
+    call: &'a Call<Given<'a, S>>,
+    hand: &mut [Option<Slip>],
+    used: &mut usize,
+    memory: &mut Memory,
+    own: &mut Memory,
+) -> (Answer, Whole<'a, S>)
+    requires empty { slips_in (drop used.old hand.old) ≡ 0 }
+    ensures { (advances : S → ℕ → ℕ)
+        → Takes (asked S.FontSource.means advances call.now) (said_by result.0)
+        (desk (subject_in S.FontSource.means advances whole.entry)
+        hand.old used.old (lent memory.old) (lent own.old))
+        (desk (subject_in S.FontSource.means advances result.1)
+        hand.new used.new (lent memory.new) (lent own.new)) }
 {
     match whole {
-        Whole::Blank(blank) => blank_call(heap, blank, call, inputs, text, run, marks),
-        Whole::Shaped(shaped) => shaped_call(
-            heap, shaped, hand, call, inputs, text, run, marks, own_run, own_marks,
-        ),
+        Whole::Blank(blank) => blank_call(blank, call, memory),
+        Whole::Shaped(shaped, given) => shaped_call(shaped, given, call, hand, used, memory, own),
     }
 }
 
-// How many slips are owed.
-fn owed(whole: &Whole) -> u16
-    ensures { result ≡ owed_by (paragraph_of whole.now) }
+// Copies so many elements, as far as there is room, behind those that are there. Answers how many
+// there are then.
+fn copy_behind<T: Copy>(to: &mut [T], there: usize, from: &[T], count: usize) -> usize
+    ensures { (list old : List T) → IsWritten there list old to.old
+        → IsWritten result (list ++ take count from.now) old to.new }
+{
+    let start = there.min(to.len());
+    let count = count.min(from.len()).min(to.len() - start);
+    to[start..start + count].copy_from_slice(&from[..count]);
+    start + count
+}
+
+// How many glyphs and marks are copied.
+#[derive(Drop)]
+struct Copied {
+    glyphs: usize,
+    marks: usize,
+}
+
+impl Copied {
+    fn add(&mut self, copies: &mut Memory, from: &Memory, glyphs: usize, marks: usize)
+        ensures { (gave old : AnyMemory) → AreWritten self.old gave old (lent copies.old)
+            → let new = joined gave (first_of (lent from.now) glyphs marks) in
+            AreWritten self.new new old (lent copies.new) }
+    {
+        let run = copies.run.as_mut_slice();
+        self.glyphs = copy_behind(run, self.glyphs, from.run.as_slice(), glyphs);
+        let bytes = copies.marks.as_mut_slice();
+        self.marks = copy_behind(bytes, self.marks, from.marks.as_slice(), marks);
+    }
+
+    // What a call gave: an accepted shape in the paragraph's memory, a pay in its own.
+    fn add_given(&mut self, copies: &mut Memory, answer: Answer, memory: &Memory, own: &Memory)
+        ensures { (gave old : AnyMemory) (s : Subject) (hand : List (Option Slip)) (used : ℕ)
+            → AreWritten self.old gave old (lent copies.old)
+            → let e = desk s hand used (lent memory.now) (lent own.now) in
+            AreWritten self.new (joined gave (given_by (said_by answer) e)) old (lent copies.new) }
+    {
+        match answer {
+            Answer::Shaped {
+                glyphs,
+                marks,
+                hits: _,
+            } => self.add(copies, memory, glyphs, marks),
+            Answer::Paid {
+                glyphs,
+                marks,
+                hits: _,
+            } => self.add(copies, own, glyphs, marks),
+            _ => (),
+        }
+    }
+}
+
+// How many slips an answer says were waived.
+fn slips_waived(answer: Answer) -> usize
+    ensures count { result ≡ (if is_waived (said_by answer) then 1 else 0) }
+    ensures one { result ≤ 1 }
+{
+    match answer {
+        Answer::Waived => 1,
+        _ => 0,
+    }
+}
+
+fn waive_owed(shaped: &mut ShapedParagraph, hand: &mut [Option<Slip>], used: usize) -> usize
+    ensures { (x : AllInputs) (memory own : AnyMemory)
+        → AllWaived (desk (shaped_from x shaped.old) hand.old used memory own) hand.new result }
+{
+    let mut waived = 0;
+    for at in 0..used {
+        waived += slips_waived(waive_call(shaped, hand, at + 1));
+    }
+    waived
+}
+
+// Waives the slip of each place in use. Answers how many were waived.
+fn waive_all<S: FontSource>(whole: Whole<'_, S>, hand: &mut [Option<Slip>], used: usize) -> usize
+    ensures { (advances : S → ℕ → ℕ) (memory own : AnyMemory)
+        → let s = subject_in S.FontSource.means advances whole.entry in
+        AllWaived (desk s hand.old used memory own) hand.new result }
 {
     match whole {
         Whole::Blank(_) => 0,
-        Whole::Shaped(shaped) => shaped.owed,
+        Whole::Shaped(mut shaped, _) => waive_owed(&mut shaped, hand, used),
     }
 }
 
-// From a paragraph's making, a list of calls, each with the same inputs and the same memory lent. Pay has memory of its own. What is answered fails only for want of memory on the heap.
+// Performs a list of calls on a paragraph from its making, as many as there are places for answers.
+// Pay has memory of its own; each call but shape gets what the accepted shape was asked with. The
+// hand may hold slips that are not this paragraph's: they stay. Slips that lines give go behind
+// them, and those that are owed at the end are waived: answers how many. What accepted shapes and
+// pays gave is copied, one behind the other, as far as there is room.
 pub fn perform<S: FontSource>(
-    heap: Global,
     number: u32,
-    calls: &[Call],
-    inputs: &Inputs<'_, S>,
-    text: &[u32],
-    run: &mut [Glyph],
-    marks: &mut [u8],
-    own_run: &mut [Glyph],
-    own_marks: &mut [u8],
-) -> Result<Answered, AllocError>
-    ensures { (advance : ℕ → ℕ) → IfOk result (λ done. Performed (inputs_of (S.FontSource.means inputs.now.source.now) advance inputs.now.table.table.now inputs.now.plan.now text.now inputs.now.limit) number (memory run.old marks.old) (memory own_run.old own_marks.old) calls.now (map said_by done.answers.items) done.owed (memory run.new marks.new) (memory own_run.new own_marks.new)) }
+    calls: &[Call<Given<'_, S>>],
+    answers: &mut [Answer],
+    hand: &mut [Option<Slip>],
+    memory: &mut Memory,
+    own: &mut Memory,
+    copies: &mut Memory,
+) -> usize
+    ensures performed { (advances : S → ℕ → ℕ)
+        → Performed number (all_asked S.FontSource.means advances calls.now)
+        (desktop answers.old hand.old memory.old own.old copies.old)
+        (desktop answers.new hand.new memory.new own.new copies.new) result }
+    ensures slips { slips_in hand.new ≡ slips_in hand.old }
+    ensures law { CuttingLaw }
 {
     let mut whole = Whole::Blank(BlankParagraph::new(number));
-    let mut hand = Vec::new(heap);
-    let mut answers = Vec::new(heap);
-    for call in calls {
-        let (answer, next) = make(
-            heap, whole, &mut hand, *call, inputs, text, run, marks, own_run, own_marks,
-        )?;
+    let mut used = places_used(hand);
+    let mut copied = Copied {
+        glyphs: 0,
+        marks: 0,
+    };
+    let made = calls.len().min(answers.len());
+    for (at, call) in calls[..made].iter().enumerate() {
+        let (answer, next) = make(whole, call, hand, &mut used, memory, own);
         whole = next;
-        answers.push(answer)?;
+        copied.add_given(copies, answer, memory, own);
+        answers[at] = answer;
     }
-    let owed = owed(&whole);
-    Ok(Answered { answers, owed })
+    waive_all(whole, hand, used)
 }

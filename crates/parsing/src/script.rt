@@ -2,7 +2,7 @@ ghost use Rattle.std.specs.Prelude.{◌≡◌, ◌≢◌, ℕ, List, [], ◌∷�
 ghost use Rattle.std.specs.List.{AllByRecursion, AllZip};
 ghost use Rattle.std.specs.Str.Lines.{lines};
 ghost use Rattle.parsing.specs.Faults.{IsFirstBad, NotRead};
-ghost use Rattle.parsing.specs.Script.{IsCall, Says, Writes, words_in};
+ghost use Rattle.parsing.specs.Script.{IsCall, Says, ScriptCall, Writes, words_in};
 ghost use Rattle.parsing.specs.Text.{text_in};
 
 use crate::error::ReadError;
@@ -12,19 +12,19 @@ use paragraph::calls::Call;
 use std::alloc::Global;
 
 // The call of a name that stands alone.
-fn bare_call(name: &str) -> Option<Call>
+fn bare_call(name: &str) -> Option<Call<()>>
     ensures says { IfSome result (λ call. Says (name.now ∷ []) call) }
     ensures none { result ≡ None → (name.now ≢ codes "shape") × (name.now ≢ codes "clear") }
 {
     match name {
-        "shape" => Some(Call::Shape),
+        "shape" => Some(Call::Shape(())),
         "clear" => Some(Call::Clear),
         _ => None,
     }
 }
 
 // The call of a name with a slip's number.
-fn slip_call(name: &str, slip: usize) -> Option<Call>
+fn slip_call(name: &str, slip: usize) -> Option<Call<()>>
     ensures says { IfSome result (λ call. (word : List ℕ) → Writes word slip → Says (name.now ∷ word ∷ []) call) }
     ensures none { result ≡ None → (name.now ≢ codes "pay") × (name.now ≢ codes "waive") }
 {
@@ -36,7 +36,7 @@ fn slip_call(name: &str, slip: usize) -> Option<Call>
 }
 
 // The call of a name with two places.
-fn line_call(name: &str, a: u32, b: u32) -> Option<Call>
+fn line_call(name: &str, a: u32, b: u32) -> Option<Call<()>>
     ensures says { IfSome result (λ call. (from to : List ℕ) → Writes from a → Writes to b → Says (name.now ∷ from ∷ to ∷ []) call) }
     ensures none { result ≡ None → name.now ≢ codes "line" }
 {
@@ -47,9 +47,9 @@ fn line_call(name: &str, a: u32, b: u32) -> Option<Call>
 }
 
 // The call that a line writes.
-pub fn call_of(line: &str) -> Option<Call>
+pub fn call_of(line: &str) -> Option<Call<()>>
     ensures says { IfSome result (λ call. Says (words_in line.now) call) }
-    ensures none { result ≡ None → (call : Call) → ¬ (Says (words_in line.now) call) }
+    ensures none { result ≡ None → (call : ScriptCall) → ¬ (Says (words_in line.now) call) }
 {
     let Some((name, rest)) = line.split_once(' ') else {
         return bare_call(line);
@@ -74,7 +74,7 @@ fn first_bad_call(text: &str) -> Option<usize>
 }
 
 // Calls, one a line. All lines are seen before there is memory for any.
-pub fn script(heap: Global, bytes: &[u8]) -> Result<Vec<Call>, ReadError>
+pub fn script(heap: Global, bytes: &[u8]) -> Result<Vec<Call<()>>, ReadError>
     ensures utf8 { OnOk result (IsUtf8 bytes.now) }
     ensures calls { IfOk result (λ calls. AllZip (λ line call. Says (words_in line) call) (lines (text_in bytes.now)) calls.items) }
     ensures not_read { IfErr result (λ error. NotRead IsCall bytes.now error) }

@@ -57,7 +57,7 @@ fn a_script(rt: HostRuntime) -> Result<(), Fail> {
     assert_eq!(rt;
         calls.as_slice(),
         [
-            Call::Shape,
+            Call::Shape(()),
             Call::Line { a: 0, b: 12 },
             Call::Pay { slip: 1 },
             Call::Waive { slip: 2 },

@@ -1,29 +1,37 @@
-use Rattle.std.proofs.Common.{◌≡◌, ◌+◌, ◌∷◌, ◌++◌, [], length, Ok, Some, refl, sym, ap, ◌∙◌, subst}
-use Rattle.std.proofs.lemmas.List.{length-append, length-map, map-append}
+use Rattle.std.proofs.Common.{◌≡◌, ◌+◌, cond, length, Ok, Some, refl, ap, subst, arith}
+use Rattle.std.proofs.lemmas.Bool.{lt-leb}
 use Rattle.paragraph.specs.Calls.{denied, gives, is_shaped, kept, line, owes}
-use Rattle.paragraph.specs.Performs.{has_slip}
-use Rattle.paragraph.specs.SaidBy.{hand_of, slip_in}
 use Rattle.paragraph.specs.declared.line.Line.{Line}
+use Rattle.paragraph.specs.Performs.{desk, makes, no_place, says, shaped_from}
+use Rattle.paragraph.specs.SaidBy.{lent}
 use Rattle.paragraph.specs.Step.{Step}
 use Rattle.paragraph.specs.Told.{line_told, memory, refusal_number}
+use Rattle.paragraph.proofs.Filling.{same-memory}
+use Rattle.paragraph.proofs.Hands.{empty-there}
 use Rattle.paragraph.proofs.perform.line_call.Goals as goal
+
+pub put_slip-requires : goal.put_slip-requires
+put_slip-requires c = empty-there c.args.hand.now c.args.used.now c.requires.empty (omega arith)
 
 pub returns-in-Ok-Kept : goal.returns-in-Ok-Kept
 returns-in-Ok-Kept c = λ x own.
-    let m = memory c.args.run.now c.args.marks.now in
-    let step = subst (λ (l : Line). Step x m (is_shaped c.args.shaped.now) (line c.args.a c.args.b) (line_told c.args.a c.args.b (Ok l)) (is_shaped c.line.new.self) m) c.in-Ok-Kept.field-0-is (c.in-Ok-Kept.ensures x) in
-    (Some (line c.args.a c.args.b, gives (kept c.args.a c.args.b c.in-Ok-Kept.first c.in-Ok-Kept.count)), (refl, refl, step, refl, refl, refl))
+    let room = ap (λ t. cond t (says no_place) (makes x (line c.args.a c.args.b))) (lt-leb (length c.args.hand.now) c.args.used.now (omega arith)) in
+    let same : memory c.as_slice.result.now c.as_slice-2.result.now ≡ lent c.args.memory.now = same-memory c.as_slice.ensures.value c.as_slice-2.ensures.value in
+    let told = subst (λ m. Step x m (is_shaped c.args.shaped.now) (line c.args.a c.args.b) (line_told c.args.a c.args.b (Ok c.in-Ok-Kept.field-0)) (is_shaped c.line.new.self) m) same (c.in-Ok-Kept.ensures x) in
+    let step = subst (λ (l : Line). Step x (lent c.args.memory.now) (is_shaped c.args.shaped.now) (line c.args.a c.args.b) (line_told c.args.a c.args.b (Ok l)) (is_shaped c.line.new.self) (lent c.args.memory.now)) c.in-Ok-Kept.field-0-is told in
+    (Some (line c.args.a c.args.b, gives (kept c.args.a c.args.b c.in-Ok-Kept.first c.in-Ok-Kept.count)), (x, is_shaped c.line.new.self, lent c.args.memory.now, room, step, refl, refl))
 
-pub returns-in_ok-push-in-Ok-Owed : goal.returns-in_ok-push-in-Ok-Owed
-returns-in_ok-push-in-Ok-Owed c = λ x own.
-    let old = c.args.hand.now.items in
-    let pushed = c.in_ok-push-in-Ok-Owed.ensures.items in
-    let hand : hand_of c.push.new.self.items ≡ hand_of old ++ Some c.in-Ok-Owed.slip ∷ [] = ap hand_of pushed ∙ map-append slip_in old (c.keep.result ∷ []) ∙ ap (λ s. hand_of old ++ s ∷ []) c.keep.ensures in
-    let m = memory c.args.run.now c.args.marks.now in
-    let step = subst (λ (l : Line). Step x m (is_shaped c.args.shaped.now) (line c.args.a c.args.b) (line_told c.args.a c.args.b (Ok l)) (is_shaped c.line.new.self) m) c.in-Ok-Owed.field-0-is (c.in-Ok-Owed.ensures x) in
-    let count : length c.deref-slips.result.now ≡ length (hand_of old) + 1 =
-    ap length c.deref-slips.ensures.value ∙ ap length pushed ∙ length-append old (c.keep.result ∷ []) ∙ ap (λ n. n + 1) (sym (length-map old slip_in)) in
-    (Some (line c.args.a c.args.b, owes c.in-Ok-Owed.slip), (refl, refl, step, ap has_slip count, hand, refl))
+pub returns-in-Ok-Owed : goal.returns-in-Ok-Owed
+returns-in-Ok-Owed c = λ x own.
+    let room = ap (λ t. cond t (says no_place) (makes x (line c.args.a c.args.b))) (lt-leb (length c.args.hand.now) c.args.used.now (omega arith)) in
+    let same : memory c.as_slice.result.now c.as_slice-2.result.now ≡ lent c.args.memory.now = same-memory c.as_slice.ensures.value c.as_slice-2.ensures.value in
+    let told = subst (λ m. Step x m (is_shaped c.args.shaped.now) (line c.args.a c.args.b) (line_told c.args.a c.args.b (Ok c.in-Ok-Owed.field-0)) (is_shaped c.line.new.self) m) same (c.in-Ok-Owed.ensures x) in
+    let step = subst (λ (l : Line). Step x (lent c.args.memory.now) (is_shaped c.args.shaped.now) (line c.args.a c.args.b) (line_told c.args.a c.args.b (Ok l)) (is_shaped c.line.new.self) (lent c.args.memory.now)) c.in-Ok-Owed.field-0-is told in
+    (Some (line c.args.a c.args.b, owes c.in-Ok-Owed.slip), (x, is_shaped c.line.new.self, lent c.args.memory.now, room, step, refl, ap (λ h. desk (shaped_from x c.line.new.self) h (c.args.used.now + 1) (lent c.args.memory.now) own) c.put_slip.ensures))
 
 pub returns-in-Err : goal.returns-in-Err
-returns-in-Err c = λ x own. (Some (line c.args.a c.args.b, denied (refusal_number c.in-Err.refusal)), (refl, refl, c.in-Err.ensures x, refl, refl, refl))
+returns-in-Err c = λ x own.
+    let room = ap (λ t. cond t (says no_place) (makes x (line c.args.a c.args.b))) (lt-leb (length c.args.hand.now) c.args.used.now (omega arith)) in
+    let same : memory c.as_slice.result.now c.as_slice-2.result.now ≡ lent c.args.memory.now = same-memory c.as_slice.ensures.value c.as_slice-2.ensures.value in
+    let step = subst (λ m. Step x m (is_shaped c.args.shaped.now) (line c.args.a c.args.b) (denied (refusal_number c.in-Err.refusal)) (is_shaped c.line.new.self) m) same (c.in-Err.ensures x) in
+    (Some (line c.args.a c.args.b, denied (refusal_number c.in-Err.refusal)), (x, is_shaped c.line.new.self, lent c.args.memory.now, room, step, refl, refl))

@@ -1,13 +1,15 @@
-use Rattle.std.proofs.Common.{ℕ, List, map, take}
-use Rattle.paragraph.specs.Calls.{Answer, Call}
-use Rattle.paragraph.specs.Performs.{Performs}
-use Rattle.paragraph.specs.SaidBy.{desk, paragraph_of, said_by}
-use Rattle.paragraph.specs.Told.{inputs_of, memory}
+use Rattle.std.proofs.Common.{ℕ, ◌≡◌, List, drop, length, map, take, ◌++◌}
+use Rattle.paragraph.specs.Calls.{Answer, Call, Memory}
+use Rattle.paragraph.specs.Hand.{slips_in}
+use Rattle.paragraph.specs.Performs.{Performs, desk, start}
+use Rattle.paragraph.specs.SaidBy.{all_asked, lent, said_by}
+use Rattle.paragraph.specs.Whole.{AreWritten, subject_in}
 use Rattle.paragraph.proofs.perform.perform.Given as goal
 
--- the calls so far were performed
-abbrev pub invariant-loop-call : goal.invariant-loop-call
-invariant-loop-call g l =
-    (advance : ℕ → ℕ) → (hs : List (Call × Answer))
-    × Performs (inputs_of (g.S.FontSource.means l.fn.inputs.source.now) advance l.fn.inputs.table.table.now l.fn.inputs.plan.now l.fn.text l.fn.inputs.limit) l.fn.number (memory l.fn.run l.fn.marks) (memory l.fn.own_run l.fn.own_marks)
-    (take l.call-index l.fn.calls) (map said_by l.answers.items) hs (desk (paragraph_of l.whole) l.hand.items (memory l.run l.marks) (memory l.own_run l.own_marks))
+-- the calls so far were performed, and behind what was answered stand the answers that were there
+abbrev pub invariant-loop-at : goal.invariant-loop-at
+invariant-loop-at g l =
+    (advances : g.row.S.Denot → ℕ → ℕ) → (hs : List (Call × Answer)) × (gave : Memory)
+    × Performs (start l.fn.number l.fn.hand (lent l.fn.memory) (lent l.fn.own)) (take l.at (all_asked g.S.FontSource.means advances l.fn.calls)) (map said_by (take l.at l.answers)) hs gave
+    (desk (subject_in g.S.FontSource.means advances l.whole) l.hand l.used (lent l.memory) (lent l.own))
+    × (drop l.at l.answers ≡ drop l.at l.fn.answers) × AreWritten l.copied gave (lent l.fn.copies) (lent l.copies)

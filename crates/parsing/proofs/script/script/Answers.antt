@@ -4,13 +4,12 @@ use Rattle.std.specs.Str.Lines.{lines}
 use Rattle.std.proofs.lemmas.Iterator.Consumers.{YieldsList-end, YieldsList-turn}
 use Rattle.std.proofs.lemmas.Iterator.Splits.{YieldsList-from_lines}
 use Rattle.std.proofs.lemmas.List.{map-append}
-use Rattle.parsing.specs.Script.{IsCall, Says, words_in}
-use Rattle.paragraph.specs.declared.calls.Call.{Call}
+use Rattle.parsing.specs.Script.{IsCall, Says, ScriptCall, words_in}
 use Rattle.parsing.proofs.Numbered.{one_pair_more}
 use Rattle.parsing.proofs.Places.{parted, one_of_all}
 use Rattle.parsing.proofs.script.script.Goals as goal
 
-abbrev LineSays : List ℕ → Call → Type 0
+abbrev LineSays : List ℕ → ScriptCall → Type 0
 LineSays line call = Says (words_in line) call
 
 pub loop-line-preserved-in-Continue-branch-2 : goal.loop-line-preserved-in-Continue-branch-2
