@@ -1,5 +1,5 @@
 -- What a match does, and what was found at a position, in the words of the definitions.
-use Rattle.std.specs.Prelude.{ℕ, suc, List, take, drop, Some, None, Option}
+use Rattle.std.specs.Prelude.{◌≡◌, ℕ, suc, List, take, drop, Some, None, Option}
 use Rattle.std.proofs.Math.Option.{Option as Perhaps, none, some}
 use Rattle.model.specs.declared.Glyph.{Glyph}
 use Rattle.model.specs.Lookups.{LookupRecord, Match, put, join, nest}
@@ -33,3 +33,9 @@ abbrev pub found_at : List Glyph → (p : ℕ) → (met : List ℕ) → Option F
 found_at gs p met None = none
 found_at gs p met (Some f) =
     some (record { action = action_of f.action; others = mets_at (drop (suc p) gs) 0 (take f.inputs met); own = (glyph_at gs p).cluster; lo = f.span.lo; hi = f.span.hi })
+
+-- What is left of the memory for those indices: a match changes as many places as it has further
+-- inputs, the first ones, and a miss changes none.
+abbrev pub MetLeft : Option Found → (old new : List ℕ) → Type 0
+MetLeft None old new = new ≡ old
+MetLeft (Some f) old new = drop f.inputs new ≡ drop f.inputs old

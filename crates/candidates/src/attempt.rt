@@ -4,7 +4,7 @@ ghost use Rattle.run.specs.Contents.{glyphs_of};
 ghost use Rattle.matching.specs.Match.{matched_at};
 ghost use Rattle.matching.specs.Next.{skips};
 ghost use Rattle.matching.specs.Seek.{Outward};
-ghost use Rattle.candidates.specs.Actions.{found_at};
+ghost use Rattle.candidates.specs.Actions.{MetLeft, found_at};
 ghost use Rattle.candidates.specs.Views.{candidate_of};
 
 use crate::candidate::Candidate;
@@ -24,6 +24,7 @@ impl<'a> Candidate<'a> {
     ) -> Option<Found<'a>>
         ensures found { p < length (glyphs_of run.now) → found_at (glyphs_of run.now) p met.new result ≡ matched_at (skips (S.FontSource.means passing.now.source.now) passing.now.flag passing.now.mark_set) (candidate_of self.now).pattern (candidate_of self.now).action (glyphs_of run.now) p }
         ensures outward { IfSome result (λ found. (found.inputs ≤ 63) × Outward 0 (length (drop (suc p) (glyphs_of run.now))) (take found.inputs met.new)) }
+        ensures left { MetLeft result met.old met.new }
     {
         let around = Around {
             backtrack: self.backtrack,

@@ -5,7 +5,7 @@ ghost use Rattle.run.specs.Contents.{glyphs_of};
 ghost use Rattle.model.specs.Lookups.{choose, passes_over};
 ghost use Rattle.matching.specs.Next.{skips};
 ghost use Rattle.matching.specs.Seek.{Outward, glyph_at};
-ghost use Rattle.candidates.specs.Actions.{found_at};
+ghost use Rattle.candidates.specs.Actions.{MetLeft, found_at};
 ghost use Rattle.candidates.specs.Chosen.{chosen};
 ghost use Rattle.candidates.specs.LookupOf.{lookup_of};
 
@@ -38,6 +38,7 @@ impl<'a> Lookup<'a> {
         requires { p < length (glyphs_of run.now) }
         ensures found { found_at (glyphs_of run.now) p met.new result ≡ chosen (skips (S.FontSource.means passing.now.source.now) passing.now.flag passing.now.mark_set) ((lookup_of self.now).candidates alternate glyph) (glyphs_of run.now) p }
         ensures outward { IfSome result (λ found. (found.inputs ≤ 63) × Outward 0 (length (drop (suc p) (glyphs_of run.now))) (take found.inputs met.new)) }
+        ensures left { MetLeft result met.old met.new }
     {
         'search: {
             for j in 0..self.subtables {
@@ -64,7 +65,9 @@ impl<'a> Lookup<'a> {
         self.flag != 0 && passing.over(glyph)
     }
 
-    // The same where the lookup does not pass over the glyph itself. `met` gets the indices of the further input glyphs, counted from the glyph behind the position.
+    // The same where the lookup does not pass over the glyph itself. `met` gets the indices of the
+    // further input glyphs, counted from the glyph behind the position, and keeps what stands behind
+    // them; where nothing matches it keeps all.
     pub fn choose<S: FontSource>(
         &self,
         source: &S,
@@ -76,6 +79,7 @@ impl<'a> Lookup<'a> {
         ensures chosen { p < length (glyphs_of run.now) → found_at (glyphs_of run.now) p met.new result ≡ cond (passes_over (S.FontSource.means source.now) (lookup_of self.now) (glyph_at (glyphs_of run.now) p).glyph) none (choose (passes_over (S.FontSource.means source.now) (lookup_of self.now)) ((lookup_of self.now).candidates alternate (glyph_at (glyphs_of run.now) p).glyph) (reverse (take p (glyphs_of run.now))) (glyph_at (glyphs_of run.now) p).cluster (drop (suc p) (glyphs_of run.now))) }
         ensures past { length (glyphs_of run.now) ≤ p → result ≡ None }
         ensures outward { IfSome result (λ found. (found.inputs ≤ 63) × Outward 0 (length (drop (suc p) (glyphs_of run.now))) (take found.inputs met.new)) }
+        ensures left { MetLeft result met.old met.new }
     {
         let glyph = glyph_at(run, p)?;
         let passing = Passing {

@@ -2,16 +2,16 @@
 ghost use Rattle.std.specs.Prelude.{◌≡◌, ◌+◌, ◌*◌, ◌<◌, ◌≤◌, ◌==◌, drop, IfSome};
 ghost use Rattle.layout.specs.Bytes.{u16_at};
 ghost use Rattle.gsub.specs.Candidates.{subtable_candidates};
-ghost use Rattle.gsub.specs.Forms.{form_of, formed, part_is};
+ghost use Rattle.gsub.specs.Forms.{form_of, own_form, part_is};
 ghost use Rattle.gsub.specs.Meaning.{gsub_means, no_lookup, subtable_at, type_at};
-ghost use Rattle.candidates.specs.LookupOf.{lookup_of};
+ghost use Rattle.candidates.specs.LookupOf.{lookup_of, part_of};
 ghost use Rattle.candidates.specs.Views.{listed};
 
 use crate::forms::list;
 use crate::listed::Listed;
 use crate::lookup::Lookup;
 use crate::places::{part_from, u16_at};
-use gsub::subtable::Subtable;
+use gsub::subtable::{Decided, Subtable, is_backward, is_extension};
 use gsub::table::Gsub;
 use layout::bytes::Field;
 
@@ -21,7 +21,7 @@ fn type_at(table: &[u8], start: usize) -> u16
     ensures { result ≡ type_at table.now start }
 {
     let own = u16_at(table, start);
-    if own == 7 {
+    if is_extension(own) {
         let first = usize::from(u16_at(table, start + 6));
         u16_at(table, start + first + 2)
     } else {
@@ -35,7 +35,7 @@ fn subtable_part(table: &[u8], start: usize, offset: u16) -> &[u8]
     ensures { result.now ≡ drop (subtable_at table.now start offset) table.now }
 {
     let subtable = start + usize::from(offset);
-    if u16_at(table, start) == 7 {
+    if is_extension(u16_at(table, start)) {
         // From 32 bits to `usize` there is no `From`.
         let moved = u32::read(table, subtable + 4) as usize;
         part_from(table, subtable + moved)
@@ -87,24 +87,29 @@ impl<'a> Lookup<'a> {
     pub fn is_backward(&self) -> bool
         ensures { result ≡ (lookup_of self.now).backward }
     {
-        self.lookup_type == 8
+        is_backward(self.lookup_type)
     }
 
     // Subtable number j; none where its type has no such format.
     fn subtable(&self, j: u16) -> Option<Subtable<'a>>
-        ensures form { formed result ≡ form_of self.now.lookup_type (u16_at (drop (subtable_at self.now.gsub.table.now self.now.start (u16_at self.now.gsub.table.now (self.now.start + 6 + 2 * j))) self.now.gsub.table.now) 0) }
-        ensures part { IfSome result (λ subtable. part_is subtable ≡ drop (subtable_at self.now.gsub.table.now self.now.start (u16_at self.now.gsub.table.now (self.now.start + 6 + 2 * j))) self.now.gsub.table.now) }
+        ensures form { own_form result
+            ≡ form_of self.now.lookup_type (u16_at (part_of self.now j) 0) }
+        ensures part { IfSome result (λ subtable. part_is subtable ≡ part_of self.now j) }
     {
         let table = self.gsub.table;
         let offset = u16_at(table, self.start + 6 + 2 * usize::from(j));
         let part = subtable_part(table, self.start, offset);
-        Subtable::of(self.lookup_type, u16_at(part, 0), part)
+        match Decided::of(self.lookup_type, u16_at(part, 0), true, part)? {
+            Decided::Own(subtable) => Some(subtable),
+            Decided::Extension => None,
+        }
     }
 
     // What it lists for a glyph.
     pub(crate) fn listed(&self, j: u16, alternate: u16, glyph: u16) -> Option<Listed<'a>>
         requires { j < self.now.subtables }
-        ensures { listed result ≡ subtable_candidates (drop (subtable_at self.now.gsub.table.now self.now.start (u16_at self.now.gsub.table.now (self.now.start + 6 + 2 * j))) self.now.gsub.table.now) (type_at self.now.gsub.table.now self.now.start) alternate glyph }
+        ensures { listed result ≡ subtable_candidates (part_of self.now j)
+            (type_at self.now.gsub.table.now self.now.start) alternate glyph }
     {
         let subtable = self.subtable(j)?;
         list(subtable, alternate, glyph)

@@ -59,19 +59,17 @@ fn case(rt: &HostRuntime, line: &str) -> io::Result<()> {
     let structure = Structure::new(bytes.as_slice(), start);
     // A case is of one kind or the other, by a word.
     if kind == "classes" {
-        let classes = ClassDefinition { structure };
-        return match classes.check() {
+        return match ClassDefinition::checked(structure) {
             Err(fault) => println!(rt; "{name}: {fault}"),
-            Ok(()) => {
+            Ok(classes) => {
                 print!(rt; "{name}: accepted")?;
                 print_classes(rt, &classes, glyphs)
             }
         };
     }
-    let coverage = Coverage { structure };
-    match coverage.check() {
+    match Coverage::checked(structure) {
         Err(fault) => println!(rt; "{name}: {fault}"),
-        Ok(()) => {
+        Ok(coverage) => {
             let count = coverage.glyph_count();
             print!(rt; "{name}: accepted, {count} glyphs")?;
             print_indices(rt, &coverage, glyphs)

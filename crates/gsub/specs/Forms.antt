@@ -1,5 +1,8 @@
--- The forms of subtables: one for each pair of a type and a format. Type 7 only moves a subtable of another type.
-use Rattle.std.specs.Prelude.{ℕ, Bool, true, false, cond, ◌&&◌, List, Some, None, Option, ◌==◌}
+-- The forms of subtables: one for each pair of a type and a format. Type 7 has none: it only moves a
+-- subtable of another type.
+use Rattle.std.specs.Prelude.{◌≡◌, ℕ, Bool, true, false, cond, ◌&&◌, List, Some, None, Option, ◌==◌}
+use Rattle.gsub.specs.declared.subtable.Decided.{Decided}
+use Rattle.gsub.specs.declared.subtable.Decided.TheVariants.{Own, Extension}
 use Rattle.gsub.specs.declared.subtable.Subtable.{Subtable}
 use Rattle.gsub.specs.declared.subtable.Subtable.TheVariants.{Delta, Single, Multiple, Alternate, Ligature, GlyphRules, ClassRules, CoverageRule, Reverse}
 
@@ -43,9 +46,20 @@ form_is (ClassRules chain part) = class_rules chain
 form_is (CoverageRule chain part) = coverage_rule chain
 form_is (Reverse part) = reverse
 
-abbrev pub formed : Option Subtable → Option Form
+-- The form, and whether it is an extension, by what was decided; an extension has no form.
+abbrev pub own_form : Option Subtable → Option Form
+own_form None = None
+own_form (Some s) = Some (form_is s)
+
+abbrev pub formed : Option Decided → Option Form
 formed None = None
-formed (Some s) = Some (form_is s)
+formed (Some Extension) = None
+formed (Some (Own s)) = Some (form_is s)
+
+abbrev pub moves : Option Decided → Bool
+moves None = false
+moves (Some Extension) = true
+moves (Some (Own s)) = false
 
 -- Its part of the table.
 abbrev pub part_is : Subtable → List ℕ
@@ -58,3 +72,8 @@ part_is (GlyphRules chain part) = part.now
 part_is (ClassRules chain part) = part.now
 part_is (CoverageRule chain part) = part.now
 part_is (Reverse part) = part.now
+
+abbrev pub HasPart : List ℕ → Option Decided → Type 0
+HasPart t None = Unit {0}
+HasPart t (Some Extension) = Unit {0}
+HasPart t (Some (Own s)) = part_is s ≡ t

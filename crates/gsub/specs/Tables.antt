@@ -29,14 +29,22 @@ lookup_list_faults t s = counted_extent t s s 2
 abbrev pub movable : (type : ℕ) → Bool
 movable ty = (nat_le 1 ty && nat_le ty 6) || ty == 8
 
+abbrev pub extension_rest : (table : List ℕ) → (type s : ℕ) → List Fault
+extension_rest t ty s =
+    extent t s (s + 2) 2 1
+    ++ (unless (movable (u16_at t (s + 2)) && u16_at t (s + 2) == ty) 2 s (s + 2)
+    ++ (extent t s (s + 4) 4 1 ++ unless (not (u32_at t (s + 4) == 0)) 2 s (s + 4)))
+
 abbrev pub extension_fields : (table : List ℕ) → (type s : ℕ) → List Fault
-extension_fields t ty s =
-    format_faults t s 1
-    ++ (extent t s (s + 2) 2 1
-    ++ (unless (movable (u16_at t (s + 2)) && u16_at t (s + 2) == ty) 2 s (s + 2) ++ (extent t s (s + 4) 4 1 ++ unless (not (u32_at t (s + 4) == 0)) 2 s (s + 4))))
+extension_fields t ty s = format_faults t s 1 ++ extension_rest t ty s
 
 abbrev pub extension_faults : (table : List ℕ) → (lookups type s : ℕ) → List Fault
 extension_faults t lookups ty s = extension_fields t ty s ++ subtable_faults t lookups (s + u32_at t (s + 4)) ty
+
+-- The same behind the extension's format.
+abbrev pub extended_faults : (table : List ℕ) → (lookups type s : ℕ) → List Fault
+extended_faults t lookups ty s =
+    extension_rest t ty s ++ subtable_faults t lookups (s + u32_at t (s + 4)) ty
 
 -- The type of a lookup is 1 to 8. Its own fields: type, flag, count, subtable offsets, and a mark set number if flag 0x0010 is set.
 abbrev pub has_mark_set : (table : List ℕ) → (s : ℕ) → Bool
@@ -87,6 +95,6 @@ walk_faults t =
 abbrev pub gsub_faults : (table : List ℕ) → List Report
 gsub_faults t = too_long Gsub t ++ walk_faults t
 
--- A table with no lookups: version 1.0, no scripts, no features, and at byte 10 an empty lookup list.
+-- A table with no lookups: version 1.0, no scripts, no features, and at byte 10 a list of none.
 abbrev pub empty_table : List ℕ
 empty_table = 0 ∷ 1 ∷ 0 ∷ 0 ∷ 0 ∷ 0 ∷ 0 ∷ 0 ∷ 0 ∷ 10 ∷ 0 ∷ 0 ∷ []

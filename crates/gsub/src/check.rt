@@ -22,7 +22,8 @@ impl<'a> Gsub<'a> {
         }
     }
 
-    // A table, if it has no fault; else its first fault is answered. Memory only makes the walk shorter: it asks for 16 bits for each byte, and goes on with what it gets.
+    // A table, if it has no fault; else its first fault is answered. Memory only makes the walk
+    // shorter: it asks for 16 bits for each byte, and goes on with what it gets.
     pub fn checked(heap: Global, table: &'a [u8]) -> Result<Gsub<'a>, TableFault>
         ensures answer { table_verdict result ≡ first_in (gsub_faults table.now) }
         ensures table { IfOk result (λ gsub. gsub.table.now ≡ table.now) }
@@ -39,7 +40,8 @@ impl<'a> Gsub<'a> {
     // Takes a table, if it has no fault; else its first fault is answered, and nothing changes.
     pub fn read(&mut self, heap: Global, table: &'a [u8]) -> Result<(), TableFault>
         ensures answer { table_verdict result ≡ first_in (gsub_faults table.now) }
-        ensures table { self.new.table.now ≡ (if is_ok result then table.now else self.old.table.now) }
+        ensures table { self.new.table.now
+            ≡ (if is_ok result then table.now else self.old.table.now) }
     {
         *self = Gsub::checked(heap, table)?;
         Ok(())

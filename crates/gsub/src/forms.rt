@@ -7,12 +7,11 @@ ghost use Rattle.layout.specs.Ranges.{size};
 ghost use Rattle.layout.specs.Told.{verdict};
 ghost use Rattle.gsub.specs.Rules.{context_coverages};
 ghost use Rattle.gsub.specs.Forms.{delta, coverage_rule, form_is};
-ghost use Rattle.gsub.specs.Subtables.{class_count, coverage_of, indexed, sets_faults, class_sets, form_faults, reverse_faults, subtable_faults};
+ghost use Rattle.gsub.specs.Subtables.{class_count, coverage_of, indexed, sets_faults, class_sets, form_faults, reverse_faults};
 
 use crate::arrays::Array;
 use crate::follow::{ListOf, Offsets, Once, Target};
 use crate::rules::{ContextRule, RulePlace, Rules};
-use crate::seen::Kind;
 use crate::structures::{Alternates, Classes, Coverages, Ligatures, Sequences};
 use crate::subtable::Subtable;
 use crate::walk::{Start, Walk};
@@ -162,20 +161,29 @@ impl Walk<'_> {
         }
     }
 
-    // A subtable of a type from 1 to 6, or 8, walked once.
-    pub(crate) fn check_subtable(
+    // The same, walked once.
+    pub(crate) fn check_own(
         &mut self,
-        lookup_type: u16,
+        subtable: Subtable<'_>,
         start: Start,
     ) -> Result<(), StructureFault>
-        ensures answer { verdict result ≡ first_in (subtable_faults self.old.table self.old.lookups start.byte lookup_type) }
+        ensures answer { verdict result ≡ first_in
+            (form_faults self.old.table self.old.lookups start.byte (form_is subtable.entry)) }
         ensures same { self.new ≡ self.old }
     {
-        let subtables = Subtables { lookup_type };
-        match Kind::of_subtable(lookup_type) {
-            Some(kind) => self.check_once(&subtables, kind, start),
-            None => subtables.check(self, start),
+        match subtable.kind() {
+            Some(kind) => self.check_once(&subtable, kind, start),
+            None => self.check_form(subtable, start),
         }
+    }
+}
+
+impl Target for Subtable<'_> {
+    ghost faults = { λ subtable walked s.
+        form_faults walked.table walked.lookups s (form_is subtable) };
+
+    fn check(&self, walk: &mut Walk<'_>, start: Start) -> Result<(), StructureFault> {
+        walk.check_form(*self, start)
     }
 }
 
@@ -192,23 +200,4 @@ fn class_count(chain: bool) -> u16
     ensures { result ≡ class_count chain }
 {
     if chain { 3 } else { 1 }
-}
-
-// The subtables of a type.
-#[derive(Clone, Copy, Drop)]
-struct Subtables {
-    lookup_type: u16,
-}
-
-impl Target for Subtables {
-    ghost faults = { λ subtables walked s. subtable_faults walked.table walked.lookups s subtables.lookup_type };
-
-    fn check(&self, walk: &mut Walk<'_>, start: Start) -> Result<(), StructureFault> {
-        let structure = walk.structure(start);
-        let format = structure.field::<u16>(start.byte)?;
-        match Subtable::of(self.lookup_type, format, &structure.table[start.byte..]) {
-            Some(subtable) => walk.check_form(subtable, start),
-            None => Err(structure.broken(Rule::Unknown, start.byte)),
-        }
-    }
 }

@@ -2,28 +2,24 @@ ghost use Rattle.std.specs.Prelude.{◌≡◌, ◌+◌, ◌*◌, ◌≤◌, leng
 ghost use Rattle.layout.specs.Bytes.{u16_at, u32_at};
 ghost use Rattle.layout.specs.Faults.{first_in, in_turn};
 ghost use Rattle.layout.specs.Told.{verdict, placed_verdict};
-ghost use Rattle.gsub.specs.Tables.{movable, extension_fields, extension_faults, has_mark_set, in_lookup, lookup_fields, lookup_subtable, moved_type, subtable_faults_at, lookup_faults, lookup_faults_at, header_faults, lookup_list_faults};
+ghost use Rattle.gsub.specs.Subtables.{subtable_faults};
+ghost use Rattle.gsub.specs.Tables.{extended_faults, extension_rest, has_mark_set, in_lookup, lookup_fields, lookup_subtable, moved_type, subtable_faults_at, lookup_faults, lookup_faults_at, header_faults, lookup_list_faults};
 
 use crate::seen::Kind;
+use crate::subtable::{Decided, is_known, is_movable};
 use crate::walk::{Start, Walk};
 use layout::bytes::{Field, Width};
 use layout::fault::{Place, PlacedFault, Rule, StructureFault, TableName};
 use layout::structure::Structure;
 
-// The types that an extension can move.
-fn is_movable(lookup_type: u16) -> bool
-    ensures { result ≡ movable lookup_type }
-{
-    Kind::of_subtable(lookup_type).is_some()
-}
-
-// The type and the offset of an extension.
+// The type and the offset of an extension, behind its format.
 fn extension_offset(moved: u16, extension: Structure<'_>) -> Result<u32, StructureFault>
-    ensures answer { verdict result ≡ first_in (extension_fields extension.entry.table.now moved extension.entry.start) }
+    requires { extension.start + 2 ≤ length extension.table.now }
+    ensures answer { verdict result
+        ≡ first_in (extension_rest extension.entry.table.now moved extension.entry.start) }
     ensures offset { IfOk result (λ o. (o ≡ u32_at extension.entry.table.now (extension.entry.start + 4)) × (extension.entry.start + 8 ≤ length extension.entry.table.now)) }
 {
     let start = extension.start;
-    extension.format(1)?;
     let lookup_type = extension.field::<u16>(start + 2)?;
     let right = is_movable(lookup_type) && lookup_type == moved;
     extension.require(right, Rule::Unknown, start + 2)?;
@@ -44,7 +40,7 @@ fn check_lookup_fields(lookup: Structure<'_>) -> Result<(), StructureFault>
 {
     let start = lookup.start;
     let lookup_type = lookup.field::<u16>(start)?;
-    lookup.require(1 <= lookup_type && lookup_type <= 8, Rule::Unknown, start)?;
+    lookup.require(is_known(lookup_type), Rule::Unknown, start)?;
     lookup.check_fields(start + 2, Width::Two, 2)?;
     let count = u64::from(lookup.u16_in(4));
     let mark_sets = u64::from(has_mark_set(lookup));
@@ -80,15 +76,31 @@ impl NumberedLookup {
 }
 
 impl Walk<'_> {
-    // A subtable of type 7 in a lookup that moves a type.
+    // A subtable that an extension moves, of a type.
+    fn check_moved(&mut self, moved: u16, start: Start) -> Result<(), StructureFault>
+        ensures answer { verdict result
+            ≡ first_in (subtable_faults self.old.table self.old.lookups start.byte moved) }
+        ensures same { self.new ≡ self.old }
+    {
+        let structure = self.structure(start);
+        let format = structure.field::<u16>(start.byte)?;
+        match Decided::of(moved, format, true, &structure.table[start.byte..]) {
+            Some(Decided::Own(subtable)) => self.check_own(subtable, start),
+            _ => Err(structure.broken(Rule::Unknown, start.byte)),
+        }
+    }
+
+    // An extension, behind its format, in a lookup that moves a type.
     fn check_extension(&mut self, moved: u16, start: Start) -> Result<(), StructureFault>
-        ensures answer { verdict result ≡ first_in (extension_faults self.old.table self.old.lookups moved start.byte) }
+        requires { start.byte + 2 ≤ length self.old.table }
+        ensures answer { verdict result
+            ≡ first_in (extended_faults self.old.table self.old.lookups moved start.byte) }
         ensures same { self.new ≡ self.old }
     {
         let offset = extension_offset(moved, self.structure(start))?;
         // From 32 bits to `usize` there is no `From`.
         let byte = start.byte + offset as usize;
-        self.check_subtable(moved, Start { byte })
+        self.check_moved(moved, Start { byte })
     }
 
     // A subtable of the lookup at `lookup`.
@@ -101,9 +113,18 @@ impl Walk<'_> {
         ensures same { self.new ≡ self.old }
     {
         let lookup = self.structure(lookup);
-        match u16::read(lookup.table, lookup.start) {
-            7 => self.check_extension(moved_type(lookup), subtable),
-            lookup_type => self.check_subtable(lookup_type, subtable),
+        let lookup_type = u16::read(lookup.table, lookup.start);
+        let structure = self.structure(subtable);
+        let format = structure.field::<u16>(subtable.byte)?;
+        match Decided::of(
+            lookup_type,
+            format,
+            false,
+            &structure.table[subtable.byte..],
+        ) {
+            Some(Decided::Own(own)) => self.check_own(own, subtable),
+            Some(Decided::Extension) => self.check_extension(moved_type(lookup), subtable),
+            None => Err(structure.broken(Rule::Unknown, subtable.byte)),
         }
     }
 

@@ -1,7 +1,9 @@
-ghost use Rattle.std.specs.Prelude.{◌≡◌, ℕ, ◌^◌, List, IfSome, is_some};
+ghost use Rattle.std.specs.Prelude.{◌≡◌, ℕ, ◌^◌, List, IfSome};
+ghost use Rattle.gsub.specs.Forms.{form_is};
 ghost use Rattle.gsub.specs.Seen.{faults_of, index};
-ghost use Rattle.gsub.specs.Subtables.{subtable_faults};
-ghost use Rattle.gsub.specs.Tables.{movable};
+ghost use Rattle.gsub.specs.Subtables.{form_faults};
+
+use crate::subtable::Subtable;
 
 // The kinds of structures that the walk remembers: those that cost more to walk than to look up.
 #[derive(Clone, Copy)]
@@ -11,38 +13,55 @@ pub(crate) enum Kind {
     LigatureSet,
     RuleSet,
     ChainRuleSet,
-    Single,
     Multiple,
     Alternate,
     Ligature,
-    Context,
-    Chain,
+    GlyphRules,
+    ChainGlyphRules,
+    ClassRules,
+    ChainClassRules,
+    CoverageRule,
+    ChainCoverageRule,
     Reverse,
     Lookup,
 }
 
 impl Kind {
-    // The kind of the subtables of a type, which is a number of the format: the forms go by type and format together, in `Subtable::of`.
-    pub(crate) fn of_subtable(lookup_type: u16) -> Option<Kind>
-        ensures movable { is_some result ≡ movable lookup_type }
-        ensures faults { (t : List ℕ) (n s : ℕ) → IfSome result (λ kind. faults_of kind t n s ≡ subtable_faults t n s lookup_type) }
-    {
-        match lookup_type {
-            1 => Some(Kind::Single),
-            2 => Some(Kind::Multiple),
-            3 => Some(Kind::Alternate),
-            4 => Some(Kind::Ligature),
-            5 => Some(Kind::Context),
-            6 => Some(Kind::Chain),
-            8 => Some(Kind::Reverse),
-            _ => None,
-        }
-    }
-
     // A bit of its own.
     pub(crate) fn bit(self) -> u16
         ensures { result ≡ 2 ^ index self }
     {
         1 << (self as u16)
+    }
+}
+
+impl Subtable<'_> {
+    // Its kind, by its form; none where it leads to no more than a coverage.
+    pub(crate) fn kind(self) -> Option<Kind>
+        ensures { (t : List ℕ) (n s : ℕ) → IfSome result
+            (λ kind. faults_of kind t n s ≡ form_faults t n s (form_is self.entry)) }
+    {
+        match self {
+            Subtable::Delta { part: _ } | Subtable::Single { part: _ } => None,
+            Subtable::Multiple { part: _ } => Some(Kind::Multiple),
+            Subtable::Alternate { part: _ } => Some(Kind::Alternate),
+            Subtable::Ligature { part: _ } => Some(Kind::Ligature),
+            Subtable::GlyphRules { chain, part: _ } => Some(if chain {
+                Kind::ChainGlyphRules
+            } else {
+                Kind::GlyphRules
+            }),
+            Subtable::ClassRules { chain, part: _ } => Some(if chain {
+                Kind::ChainClassRules
+            } else {
+                Kind::ClassRules
+            }),
+            Subtable::CoverageRule { chain, part: _ } => Some(if chain {
+                Kind::ChainCoverageRule
+            } else {
+                Kind::CoverageRule
+            }),
+            Subtable::Reverse { part: _ } => Some(Kind::Reverse),
+        }
     }
 }

@@ -24,7 +24,8 @@ impl Target for Coverages {
 
     fn check(&self, walk: &mut Walk<'_>, start: Start) -> Result<(), StructureFault> {
         let structure = walk.structure(start);
-        Coverage { structure }.check()
+        Coverage::checked(structure)?;
+        Ok(())
     }
 }
 
@@ -46,7 +47,8 @@ impl Target for Classes {
 
     fn check(&self, walk: &mut Walk<'_>, start: Start) -> Result<(), StructureFault> {
         let structure = walk.structure(start);
-        ClassDefinition { structure }.check()
+        ClassDefinition::checked(structure)?;
+        Ok(())
     }
 }
 

@@ -1,5 +1,5 @@
 -- Coverages: which glyphs a subtable is for, and the index of each. Format 1 lists glyphs, format 2 ranges of them.
-use Rattle.std.specs.Prelude.{ℕ, ◌+◌, ◌*◌, ◌-◌, cond, ◌≤◌, List, ◌++◌, length, Some, None, Option, ◌==◌}
+use Rattle.std.specs.Prelude.{ℕ, ◌+◌, ◌-◌, cond, List, ◌++◌, Some, None, Option, ◌==◌}
 use Rattle.layout.specs.declared.array.Kind.{Kind}
 use Rattle.layout.specs.declared.array.Kind.TheVariants.{Glyphs, Records}
 use Rattle.layout.specs.declared.array.Range.{Range}
@@ -7,7 +7,7 @@ use Rattle.layout.specs.declared.array.Third.TheVariants.{StartIndex}
 use Rattle.layout.specs.Bytes.{u16_at}
 use Rattle.layout.specs.declared.fault.Fault.{Fault}
 use Rattle.layout.specs.Faults.{format_faults}
-use Rattle.layout.specs.Ranges.{entry_size, counted_ranges, counted_faults, holding}
+use Rattle.layout.specs.Ranges.{counted_ranges, counted_faults, holding}
 
 abbrev pub kind_of : (format : ℕ) → Kind
 kind_of f = cond (f == 1) Glyphs Records
@@ -15,10 +15,6 @@ kind_of f = cond (f == 1) Glyphs Records
 -- The ranges of the coverage at s: format, count, and from byte 4 on the entries.
 abbrev pub coverage_ranges : (table : List ℕ) → (s : ℕ) → List Range
 coverage_ranges t s = counted_ranges (kind_of (u16_at t s)) t s
-
--- Its array lies in the table.
-abbrev pub LiesIn : (table : List ℕ) → (s : ℕ) → Type 0
-LiesIn t s = s + 4 + entry_size (kind_of (u16_at t s)) * u16_at t (s + 2) ≤ length t
 
 -- Its faults: format, count and the array's extent; then, entry by entry, order and start index.
 abbrev pub coverage_faults : (table : List ℕ) → (s : ℕ) → List Fault

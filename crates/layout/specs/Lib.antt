@@ -4,4 +4,5 @@ pub mod Coverages
 pub mod Examples
 pub mod Faults
 pub mod Ranges
+pub mod Rising
 pub mod Told

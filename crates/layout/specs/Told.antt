@@ -18,6 +18,9 @@ use Rattle.layout.specs.Faults.{own_place, report_at}
 abbrev pub wrapped : ByteFault → StructureFault
 wrapped b = PastEnd b
 
+abbrev pub placed : Place → StructureFault → PlacedFault
+placed p e = record { place = p; fault = e }
+
 abbrev pub placed_table : PlacedFault → TableFault
 placed_table p = Structure p
 
@@ -58,7 +61,7 @@ table_verdict (Err e) = Some (table_told e)
 -- A structure's answer, with its fault at a place.
 abbrev pub placing : {X : Type 0} → Place → Result X StructureFault → Result X PlacedFault
 placing p (Ok x) = Ok x
-placing p (Err e) = Err (record { place = p; fault = e })
+placing p (Err e) = Err (placed p e)
 
 -- How a table's name, a fault and a report are printed.
 abbrev pub name_text : TableName → List ℕ

@@ -1,4 +1,5 @@
-ghost use Rattle.layout.specs.Ranges.{Inside};
+ghost use Rattle.layout.specs.Ranges.{Inside, Rises, ranges_of};
+ghost use Rattle.layout.specs.Rising.{rises_prop};
 
 use crate::structure::Structure;
 
@@ -39,9 +40,16 @@ pub struct RangeArray<'a> {
     pub count: u32,
 }
 
-// One that was found to lie in its table.
+// One that lies in its table, so that each entry can be read.
 #[derive(Clone, Copy)]
-pub(crate) struct Laid<'a> {
-    pub(crate) array: RangeArray<'a>,
+pub struct Laid<'a> {
+    pub array: RangeArray<'a>,
     ghost inside: { Inside array },
+}
+
+// One whose ranges also rise, so that it can be searched.
+#[derive(Clone, Copy)]
+pub struct Rising<'a> {
+    pub laid: Laid<'a>,
+    ghost rises: { Rises 0 (ranges_of laid.array) } by { rises_prop 0 (ranges_of laid.array) },
 }

@@ -1,6 +1,6 @@
 ghost use Rattle.std.specs.Prelude.{◌≡◌, List, Some};
 ghost use Rattle.layout.specs.Faults.{first_in, own_place, reports, too_long};
-ghost use Rattle.layout.specs.Told.{name_text, fault_text, report_text, wrapped, told, verdict, placed_verdict, table_verdict, table_told, placed_table, placing};
+ghost use Rattle.layout.specs.Told.{name_text, fault_text, report_text, wrapped, placed, told, verdict, placed_verdict, table_verdict, table_told, placed_table, placing};
 
 use std::fmt;
 
@@ -85,6 +85,14 @@ impl From<ByteFault> for StructureFault {
     }
 }
 
+impl From<(Place, StructureFault)> for PlacedFault {
+    ghost from_gives = { λ held r. r ≡ placed held.0 held.1 };
+
+    fn from((place, fault): (Place, StructureFault)) -> PlacedFault {
+        PlacedFault { place, fault }
+    }
+}
+
 impl From<PlacedFault> for TableFault {
     ghost from_gives = { λ p r. r ≡ placed_table p };
 
@@ -129,7 +137,7 @@ impl Place {
         ensures answer { result ≡ placing self answer }
         ensures told { (faults : List Fault) → verdict answer ≡ first_in faults → placed_verdict result ≡ first_in (reports self faults) }
     {
-        answer.map_err(|fault| PlacedFault { place: self, fault })
+        answer.map_err(|fault| PlacedFault::from((self, fault)))
     }
 }
 

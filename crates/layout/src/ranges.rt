@@ -1,10 +1,10 @@
 ghost use Rattle.std.specs.Prelude.{◌≡◌, ◌+◌, ◌*◌, ◌<◌, ◌≤◌, length, IfOk, IfSome, OnOk, slice_index_or, None};
 ghost use Rattle.layout.specs.Bytes.{bytes_of, u16_at};
 ghost use Rattle.layout.specs.Faults.{first_in, extent};
-ghost use Rattle.layout.specs.Ranges.{counted_faults, counted_ranges, Inside, Rises, holding, last_of, ranges_of, entry_faults, field_size, field_count, entry_size, range_at, value_bound, third_faults, order_faults, array_faults};
+ghost use Rattle.layout.specs.Ranges.{counted_faults, counted_ranges, holding, last_of, ranges_of, entry_faults, field_size, field_count, entry_size, range_at, value_bound, third_faults, order_faults, array_faults};
 ghost use Rattle.layout.specs.Told.{verdict, byte_verdict};
 
-use crate::array::{Kind, Laid, Range, RangeArray, Third};
+use crate::array::{Kind, Laid, Range, RangeArray, Rising, Third};
 use crate::bytes::{Field, Width};
 use crate::fault::{ByteFault, Rule, StructureFault};
 use crate::structure::Structure;
@@ -82,17 +82,22 @@ impl Kind {
 }
 
 impl<'a> Structure<'a> {
-    // The ranges behind its format and their count.
-    pub(crate) fn ranges(&self, kind: Kind) -> RangeArray<'a>
-        ensures laid { self.now.start + 4 + entry_size kind * u16_at self.now.table.now (self.now.start + 2) ≤ length self.now.table.now → (ranges_of result ≡ counted_ranges kind self.now.table.now self.now.start) × Inside result }
-        ensures ranges { (third : Third) → first_in (counted_faults third kind self.now.table.now self.now.start) ≡ None → (ranges_of result ≡ counted_ranges kind self.now.table.now self.now.start) × Inside result × Rises 0 (ranges_of result) }
-        ensures kind { result.kind ≡ kind }
+    // The ranges behind its format and their count, where they have no fault.
+    pub(crate) fn ranges(&self, kind: Kind) -> Rising<'a>
+        requires { (third : Third)
+            × (first_in (counted_faults third kind self.now.table.now self.now.start) ≡ None) }
+        ensures ranges { ranges_of result.laid.array
+            ≡ counted_ranges kind self.now.table.now self.now.start }
+        ensures kind { result.laid.array.kind ≡ kind }
     {
-        RangeArray {
+        let array = RangeArray {
             structure: *self,
             kind,
             at: self.start.saturating_add(4),
             count: u32::from(self.u16_in(2)),
+        };
+        Rising {
+            laid: Laid { array },
         }
     }
 
@@ -111,7 +116,6 @@ impl<'a> Structure<'a> {
     }
 }
 
-// That an array lies in its table and rises are conditions of what is answered, and no fact of the type, since then a caller could not ask one that he did not check himself.
 impl<'a> RangeArray<'a> {
     // All fields of the array lie in the table; else the first that does not.
     fn laid(&self) -> Result<Laid<'a>, ByteFault>
@@ -134,21 +138,6 @@ impl<'a> RangeArray<'a> {
     {
         self.laid()?.check_order(third)
     }
-
-    // The last entry, if there is one.
-    pub(crate) fn last(&self) -> Option<Range>
-        ensures { Inside self.now → result ≡ last_of (ranges_of self.now) }
-    {
-        self.laid().ok()?.last()
-    }
-
-    // The range that holds x.
-    pub fn find(&self, x: u32) -> Option<Range>
-        ensures range { Inside self.now → Rises 0 (ranges_of self.now) → result ≡ holding x (ranges_of self.now) }
-        ensures bound { IfSome result (λ range. range.value < value_bound self.now.kind) }
-    {
-        self.laid().ok()?.find(x)
-    }
 }
 
 impl Laid<'_> {
@@ -168,7 +157,7 @@ impl Laid<'_> {
     }
 
     // The last entry, if there is one.
-    fn last(&self) -> Option<Range>
+    pub(crate) fn last(&self) -> Option<Range>
         ensures { result ≡ last_of (ranges_of self.now.array) }
     {
         let last = self.array.count.checked_sub(1)?;
@@ -233,17 +222,21 @@ impl Laid<'_> {
             }
         }
     }
+}
 
+impl Rising<'_> {
     // The range that holds x, by halving. The library searches slices of records; these are bytes of three forms.
-    fn find(&self, x: u32) -> Option<Range>
-        ensures range { Rises 0 (ranges_of self.now.array) → result ≡ holding x (ranges_of self.now.array) }
-        ensures bound { IfSome result (λ range. range.value < value_bound self.now.array.kind) }
+    pub fn find(&self, x: u32) -> Option<Range>
+        ensures range { result ≡ holding x (ranges_of self.now.laid.array) }
+        ensures inside { IfSome result (λ range. (range.first ≤ x) × (x ≤ range.last)) }
+        ensures bound { IfSome result
+            (λ range. range.value < value_bound self.now.laid.array.kind) }
     {
         let mut low = 0;
-        let mut high = self.array.count;
+        let mut high = self.laid.array.count;
         while low < high {
             let middle = low + (high - low) / 2;
-            let range = self.entry(middle);
+            let range = self.laid.entry(middle);
             if x < range.first {
                 high = middle;
             } else if range.last < x {

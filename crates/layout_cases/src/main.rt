@@ -34,10 +34,9 @@ fn case(rt: &HostRuntime, line: &str) -> io::Result<()> {
     let start = number(parts.next().unwrap_or(""));
     let bytes = bytes_of(rt.alloc(), words, length)?;
     let structure = Structure::new(bytes.as_slice(), start);
-    let coverage = Coverage { structure };
-    match coverage.check() {
+    match Coverage::checked(structure) {
         Err(fault) => println!(rt; "{name}: {fault}"),
-        Ok(()) => {
+        Ok(coverage) => {
             print!(rt; "{name}: accepted")?;
             for word in parts.next().unwrap_or("").split_whitespace() {
                 let glyph = word.parse::<u16>().unwrap_or(0);

@@ -1,17 +1,18 @@
 -- A search for two lists of entries, one behind the other, and a pattern around a position.
-use Rattle.std.proofs.Common.{◌≡◌, ℕ, suc, ◌+◌, Bool, true, false, cond, List, [], ◌∷◌, ◌++◌, length, take, drop, reverse, Some, None, Option, refl, sym, ap, ◌∙◌, subst, arith}
-use Rattle.std.proofs.lemmas.List.{drop-drop}
+use Rattle.std.proofs.Common.{◌≡◌, ℕ, suc, ◌+◌, Bool, true, false, cond, List, [], ◌∷◌, ◌++◌, length, take, drop, reverse, Some, None, Option, refl, sym, ap, ap₂, ◌∙◌, subst, arith}
+use Rattle.std.proofs.lemmas.List.{drop-drop, take_at}
 use Rattle.std.proofs.Math.Seq.{take-append_seam}
 use Rattle.std.proofs.Math.Option.{Option as Perhaps, none, some, map}
 use Rattle.model.specs.declared.Glyph.{Glyph}
-use Rattle.model.specs.Lookups.{Action, Candidate, Met, Pattern, far, matched, seek}
+use Rattle.model.specs.Lookups.{Action, Candidate, Match, Met, Pattern, far, matched, seek}
 use Rattle.matching.specs.declared.passing.Next.{Next}
+use Rattle.matching.specs.declared.pattern.Span.{Span}
 use Rattle.matching.specs.declared.seek.Reached.{Reached}
 use Rattle.matching.specs.Next.{next_in}
 use Rattle.std.specs.List.{slice_get}
 use Rattle.std.proofs.lemmas.Option.{get_or_from_slice_get}
 use Rattle.matching.specs.Match.{matched_at, spanned}
-use Rattle.matching.specs.Seek.{ends, glyph_at, reached_by}
+use Rattle.matching.specs.Seek.{Outward, ends, glyph_at, mets_at, reached_by}
 use Rattle.matching.proofs.Nexts.{met_by, seek-next}
 use Rattle.matching.proofs.Seeks.{behind, behind-none}
 
@@ -77,6 +78,21 @@ long-met n entry others gs (Some next) h =
 seek-long : (skips : ℕ → Bool) (ts : List (ℕ → Bool)) (gs : List Glyph) → Long (length ts) (seek skips ts gs)
 seek-long skips [] gs = refl
 seek-long skips (t ∷ ts) gs = subst (Long (suc (length ts))) (sym (seek-next skips t ts gs)) (long-met (length ts) t (seek skips ts) gs (next_in skips gs) (seek-long skips ts))
+
+-- where further entries are met too, the first are met by the first of the glyphs
+module _ (skips : ℕ → Bool) (is ls : List (ℕ → Bool)) (gs : List Glyph) (ms : List Met) where
+  of-both : (xs : List Met) → length xs ≡ length is → (r : Perhaps (List Met)) → some ms ≡ behind xs r → some xs ≡ some (take (length is) ms)
+  of-both xs long none e = absurd cc
+  of-both xs long (some ys) e =
+      let whole : ms ≡ xs ++ ys = cc in
+      ap some (sym (ap (take (length is)) whole ∙ ap (λ n. take n (xs ++ ys)) (sym long) ∙ take-append_seam xs ys))
+
+  of-first : (r : Perhaps (List Met)) → Long (length is) r → some ms ≡ followed skips ls gs r → r ≡ some (take (length is) ms)
+  of-first none long e = absurd cc
+  of-first (some xs) long e = of-both xs long (seek skips ls (drop (ends 0 xs) gs)) e
+
+  pub seek-first : seek skips (is ++ ls) gs ≡ some ms → seek skips is gs ≡ some (take (length is) ms)
+  seek-first e = of-first (seek skips is gs) (seek-long skips is gs) (sym e ∙ seek-append skips ls is gs)
 
 -- what a search reached tells of it
 reached-none : (from : Reached) (o : Perhaps (List Met)) → None ≡ reached_by from o → o ≡ none
@@ -148,3 +164,44 @@ module _ (skips : ℕ → Bool) (pattern : Pattern) (action : Action) (gs : List
       ap (λ c. matched (record { pattern = pattern; action = action }) c (seek skips (pattern.input ++ pattern.lookahead) (drop (suc p) gs)) (seek skips pattern.backtrack (reverse (take p gs)))) own
       ∙ ap (λ n. matched (record { pattern = pattern; action = action }) g.cluster (seek skips (pattern.input ++ pattern.lookahead) (drop n gs)) (seek skips pattern.backtrack (reverse (take p gs)))) behind-p
       ∙ m ∙ ap (λ c. some (record { action = action; others = ms; own = c; lo = lo; hi = hi })) (sym own)
+
+-- what a pattern spans tells how its input was met
+module _ (skips : ℕ → Bool) (pattern : Pattern) (action : Action) (gs : List Glyph) (p : ℕ) (span : Span) where
+  abbrev after : List Glyph
+  after = drop (suc p) gs
+
+  abbrev own : ℕ
+  own = (glyph_at gs p).cluster
+
+  abbrev inputs : ℕ
+  inputs = length pattern.input
+
+  abbrev met : Perhaps (List Met) → Perhaps (List Met) → Perhaps Match
+  met ahead back = matched (record { pattern = pattern; action = action }) own ahead back
+
+  abbrev one : List Met → Match
+  one ms = record { action = action; others = ms; own = own; lo = span.lo; hi = span.hi }
+
+  spans : (ahead back : Perhaps (List Met)) → Some span ≡ spanned (met ahead back) → (ms : List Met) × (ahead ≡ some ms) × (met ahead back ≡ some (one (take inputs ms)))
+  spans none back e = absurd cc
+  spans (some ms) none e = absurd cc
+  spans (some ms) (some bs) e =
+      let lo : far own bs ≡ span.lo = cc in
+      let hi : far own ms ≡ span.hi = cc in
+      (ms, refl, ap₂ (λ l h. some (record { action = action; others = take inputs ms; own = own; lo = l; hi = h })) lo hi)
+
+  pub input-met : Some span ≡ spanned (matched_at skips pattern action gs p) → (ms : List Met) × (seek skips pattern.input after ≡ some ms) × (matched_at skips pattern action gs p ≡ some (one ms))
+  input-met e =
+      let all = spans (seek skips (pattern.input ++ pattern.lookahead) after) (seek skips pattern.backtrack (reverse (take p gs))) e in
+      (take inputs all.0, seek-first skips pattern.input pattern.lookahead after all.0 all.1, all.2)
+
+  -- the input's indices, noted in memory with more places behind them
+  pub input-noted : (qs rest : List ℕ) → Some span ≡ spanned (matched_at skips pattern action gs p) → length qs ≡ inputs
+      → ((tests : List (ℕ → Bool)) (ms : List Met) → length tests ≡ length qs → seek skips tests (drop (p + 1) gs) ≡ some ms → (ms ≡ mets_at (drop (p + 1) gs) 0 qs) × Outward 0 (length (drop (p + 1) gs)) qs)
+      → (matched_at skips pattern action gs p ≡ some (one (mets_at after 0 (take inputs (qs ++ rest))))) × Outward 0 (length after) (take inputs (qs ++ rest))
+  input-noted qs rest e long noted =
+      let all = input-met e in
+      let one-on : p + 1 ≡ suc p = omega arith in
+      let at-p = subst (λ n. (ms : List Met) → seek skips pattern.input (drop n gs) ≡ some ms → (ms ≡ mets_at (drop n gs) 0 qs) × Outward 0 (length (drop n gs)) qs) one-on (λ ms. noted pattern.input ms (sym long)) all.0 all.1 in
+      let same : take inputs (qs ++ rest) ≡ qs = take_at qs rest inputs long in
+      (all.2 ∙ ap (λ ms. some (one ms)) (at-p.0 ∙ ap (mets_at after 0) (sym same)), subst (Outward 0 (length after)) (sym same) at-p.1)

@@ -1,5 +1,5 @@
 -- A search for entries, one after the other.
-use Rattle.std.proofs.Common.{◌≡◌, ℕ, suc, ◌+◌, ◌-◌, ◌<◌, ◌≤◌, Bool, true, false, cond, List, [], ◌∷◌, ◌++◌, length, get_or, drop, Some, None, Option, refl, sym, ap, ◌∙◌, subst, append_assoc, arith}
+use Rattle.std.proofs.Common.{◌≡◌, ℕ, suc, ◌+◌, ◌-◌, ◌<◌, ◌≤◌, Bool, true, false, cond, List, [], ◌∷◌, ◌++◌, length, get_or, drop, Some, None, Option, refl, sym, ap, ◌∙◌, append_assoc, arith}
 use Rattle.std.proofs.lemmas.List.{drop_more, drop_all, drop-drop, get_or-drop, append-nil}
 use Rattle.std.proofs.Math.Option.{Option as Perhaps, none, some, map}
 use Rattle.model.specs.declared.Glyph.{Glyph}
@@ -63,85 +63,128 @@ far-more : (own : ℕ) (ms : List Met) (m : Met) → far own (ms ++ m ∷ []) �
 far-more own [] m = refl
 far-more own (x ∷ ms) m = far-more x.cluster ms m
 
-pub sought-first : (skips : ℕ → Bool) (tests : List (ℕ → Bool)) (gs : List Glyph) (from : Reached) → seek skips tests (drop from.at gs) ≡ behind [] (seek skips tests (drop from.at gs))
-sought-first skips tests gs from = sym (behind-none (seek skips tests (drop from.at gs)))
+module _ (skips : ℕ → Bool) (tests : List (ℕ → Bool)) (gs : List Glyph) (at k : ℕ) (more : k < length tests) where
+  abbrev test : ℕ → Bool
+  test = get_or tests k (λ g. false)
 
-module _ (skips : ℕ → Bool) (tests : List (ℕ → Bool)) (gs : List Glyph) (from so_far : Reached) (k room : ℕ) (qs : List ℕ) where
-  -- what was met so far, and that what is left gives the whole; the indices met, where there is room for them
+  here : seek skips (drop k tests) (drop at gs) ≡ met_by test (seek skips (drop (k + 1) tests)) (drop at gs) (next_in skips (drop at gs))
+  here = ap (λ ts. seek skips ts (drop at gs)) (drop_more tests k (λ g. false) more) ∙ seek-next skips test (drop (k + 1) tests) (drop at gs)
+
+  -- no glyph is left for entry k
+  left-none : None ≡ next_in skips (drop at gs) → seek skips (drop k tests) (drop at gs) ≡ none
+  left-none e = here ∙ ap (met_by test (seek skips (drop (k + 1) tests)) (drop at gs)) (sym e)
+
+  module _ (next : Next) (is : next_in skips (drop at gs) ≡ Some next) where
+    abbrev met : Met
+    met = record { gap = next.gap; cluster = next.glyph.cluster }
+
+    abbrev rest : Perhaps (List Met)
+    rest = seek skips (drop (k + 1) tests) (drop (suc next.gap) (drop at gs))
+
+    by : seek skips (drop k tests) (drop at gs) ≡ cond (meets tests k next.glyph.glyph) (map (λ ms. met ∷ ms) rest) none
+    by = here ∙ ap (met_by test (seek skips (drop (k + 1) tests)) (drop at gs)) is
+
+    -- the next one does not meet it
+    left-not : meets tests k next.glyph.glyph ≡ false → seek skips (drop k tests) (drop at gs) ≡ none
+    left-not e = by ∙ ap (λ b. cond b (map (λ ms. met ∷ ms) rest) none) e
+
+    -- it does: on to the next entry
+    left-on : meets tests k next.glyph.glyph ≡ true → seek skips (drop k tests) (drop at gs) ≡ map (λ ms. met ∷ ms) (seek skips (drop (k + 1) tests) (drop (at + next.gap + 1) gs))
+    left-on e =
+        let on : at + suc next.gap ≡ at + next.gap + 1 = omega arith in
+        by ∙ ap (λ b. cond b (map (λ ms. met ∷ ms) rest) none) e
+        ∙ ap (λ l. map (λ ms. met ∷ ms) (seek skips (drop (k + 1) tests) l)) (drop-drop (suc next.gap) at gs ∙ ap (λ n. drop n gs) on)
+
+-- what was met so far, and that what is left gives the whole
+module _ (skips : ℕ → Bool) (tests : List (ℕ → Bool)) (gs : List Glyph) (from so_far : Reached) (k : ℕ) where
   abbrev pub Sought : Type 0
   Sought =
       (ms : List Met)
       × (so_far.at ≡ ends from.at ms)
       × (so_far.far ≡ far from.far ms)
       × (seek skips tests (drop from.at gs) ≡ behind ms (seek skips (drop k tests) (drop so_far.at gs)))
-      × (length tests ≤ room → (so_far.at ≡ past from.at qs) × (ms ≡ mets_at gs from.at qs) × Outward from.at (length gs) qs)
 
   module _ (sought : Sought) (more : k < length tests) where
-    abbrev test : ℕ → Bool
-    test = get_or tests k (λ g. false)
-
-    here : seek skips (drop k tests) (drop so_far.at gs) ≡ met_by test (seek skips (drop (k + 1) tests)) (drop so_far.at gs) (next_in skips (drop so_far.at gs))
-    here = ap (λ ts. seek skips ts (drop so_far.at gs)) (drop_more tests k (λ g. false) more) ∙ seek-next skips test (drop (k + 1) tests) (drop so_far.at gs)
-
-    -- no glyph is left
     pub sought-none : None ≡ next_in skips (drop so_far.at gs) → None ≡ reached_by from (seek skips tests (drop from.at gs))
-    sought-none e = sym (ap (reached_by from) (sought.3 ∙ ap (behind sought.0) (here ∙ ap (met_by test (seek skips (drop (k + 1) tests)) (drop so_far.at gs)) (sym e))))
+    sought-none e = sym (ap (reached_by from) (sought.3 ∙ ap (behind sought.0) (left-none skips tests gs so_far.at k more e)))
 
-    module _ (next : Next) (is : next_in skips (drop so_far.at gs) ≡ Some next) where
-      by : seek skips (drop k tests) (drop so_far.at gs) ≡ cond (meets tests k next.glyph.glyph) (map (λ ms. record { gap = next.gap; cluster = next.glyph.cluster } ∷ ms) (seek skips (drop (k + 1) tests) (drop (suc next.gap) (drop so_far.at gs)))) none
-      by = here ∙ ap (met_by test (seek skips (drop (k + 1) tests)) (drop so_far.at gs)) is
+    pub sought-not : (next : Next) → next_in skips (drop so_far.at gs) ≡ Some next → meets tests k next.glyph.glyph ≡ false → None ≡ reached_by from (seek skips tests (drop from.at gs))
+    sought-not next is e = sym (ap (reached_by from) (sought.3 ∙ ap (behind sought.0) (left-not skips tests gs so_far.at k more next is e)))
 
-      -- the next one does not meet the entry
-      pub sought-not : meets tests k next.glyph.glyph ≡ false → None ≡ reached_by from (seek skips tests (drop from.at gs))
-      sought-not e =
-          sym (ap (reached_by from) (sought.3 ∙ ap (behind sought.0) (by ∙ ap (λ b. cond b (map (λ ms. record { gap = next.gap; cluster = next.glyph.cluster } ∷ ms) (seek skips (drop (k + 1) tests) (drop (suc next.gap) (drop so_far.at gs)))) none) e)))
+pub sought-first : (skips : ℕ → Bool) (tests : List (ℕ → Bool)) (gs : List Glyph) (from : Reached) → Sought skips tests gs from from 0
+sought-first skips tests gs from = ([], refl, refl, sym (behind-none (seek skips tests (drop from.at gs))))
 
--- it does: on to the next entry
-module _ (skips : ℕ → Bool) (tests : List (ℕ → Bool)) (gs : List Glyph) (from so_far : Reached) (k room : ℕ) (qs : List ℕ) (sought : Sought skips tests gs from so_far k room qs) (more : k < length tests) (next : Next) (is : next_in skips (drop so_far.at gs) ≡ Some next) (met : meets tests k next.glyph.glyph ≡ true) (qs' : List ℕ) (noted : length tests ≤ room → qs' ≡ qs ++ (so_far.at + next.gap) ∷ []) (inside : so_far.at + next.gap < length gs) where
-  abbrev index : ℕ
-  index = so_far.at + next.gap
-
-  abbrev m : Met
-  m = record { gap = next.gap; cluster = next.glyph.cluster }
-
-  indices : (fits : length tests ≤ room) → (index + 1 ≡ past from.at qs') × (sought.0 ++ m ∷ [] ≡ mets_at gs from.at qs') × Outward from.at (length gs) qs'
-  indices fits =
-      let old = sought.4 fits in
-      let gap : next.gap ≡ index - past from.at qs = omega (arith, old.0) in
-      let glyph : next.glyph ≡ glyph_at gs index = sym (next-at skips (drop so_far.at gs) next is) ∙ get_or-drop so_far.at gs next.gap (record { glyph = 0; cluster = 0 }) in
-      let same : m ≡ record { gap = index - past from.at qs; cluster = (glyph_at gs index).cluster } = cc in
-      let end : index + 1 ≡ suc index = omega arith in (
-        end ∙ sym (past-more from.at qs index) ∙ ap (past from.at) (sym (noted fits)),
-        ap (λ xs. xs ++ m ∷ []) old.1 ∙ ap (λ x. mets_at gs from.at qs ++ x ∷ []) same ∙ sym (mets-more gs from.at qs index) ∙ ap (mets_at gs from.at) (sym (noted fits)),
-        subst (Outward from.at (length gs)) (sym (noted fits)) (outward-more from.at (length gs) qs index old.2 (omega (arith, old.0)) inside),
-      )
-
-  pub sought-on : Sought skips tests gs from (record { at = index + 1; far = next.glyph.cluster }) (k + 1) room qs'
-  sought-on =
-      let on : so_far.at + suc next.gap ≡ index + 1 = omega arith in
-      let end : index + 1 ≡ ends from.at (sought.0 ++ m ∷ []) = omega (arith, sought.1, ends-more from.at sought.0 m) in (
-        sought.0 ++ m ∷ [],
-        end,
-        sym (far-more from.far sought.0 m),
-        sought.3 ∙ ap (behind sought.0) (by skips tests gs from so_far k room qs sought more next is ∙ ap (λ b. cond b (map (λ ms. m ∷ ms) (seek skips (drop (k + 1) tests) (drop (suc next.gap) (drop so_far.at gs)))) none) met)
-            ∙ ap (λ l. behind sought.0 (map (λ ms. m ∷ ms) (seek skips (drop (k + 1) tests) l))) (drop-drop (suc next.gap) so_far.at gs ∙ ap (λ n. drop n gs) on)
-            ∙ behind-more sought.0 m (seek skips (drop (k + 1) tests) (drop (index + 1) gs)),
-        indices,
-      )
+pub sought-on : (skips : ℕ → Bool) (tests : List (ℕ → Bool)) (gs : List Glyph) (from so_far : Reached) (k : ℕ) → Sought skips tests gs from so_far k → k < length tests
+    → (next : Next) → next_in skips (drop so_far.at gs) ≡ Some next → meets tests k next.glyph.glyph ≡ true → Sought skips tests gs from (record { at = so_far.at + next.gap + 1; far = next.glyph.cluster }) (k + 1)
+sought-on skips tests gs from so_far k sought more next is met =
+    let m : Met = record { gap = next.gap; cluster = next.glyph.cluster } in
+    let end : so_far.at + next.gap + 1 ≡ ends from.at (sought.0 ++ m ∷ []) = omega (arith, sought.1, ends-more from.at sought.0 m) in (
+      sought.0 ++ m ∷ [],
+      end,
+      sym (far-more from.far sought.0 m),
+      sought.3 ∙ ap (behind sought.0) (left-on skips tests gs so_far.at k more next is met)
+          ∙ behind-more sought.0 m (seek skips (drop (k + 1) tests) (drop (so_far.at + next.gap + 1) gs)),
+    )
 
 -- all entries are met
-module _ (skips : ℕ → Bool) (tests : List (ℕ → Bool)) (gs : List Glyph) (from so_far : Reached) (k room : ℕ) (qs : List ℕ) (sought : Sought skips tests gs from so_far k room qs) (all : length tests ≤ k) where
-  met-all : seek skips tests (drop from.at gs) ≡ some sought.0
-  met-all = sought.3 ∙ ap (λ ts. behind sought.0 (seek skips ts (drop so_far.at gs))) (drop_all k tests all) ∙ ap some (append-nil sought.0)
+pub sought-all : (skips : ℕ → Bool) (tests : List (ℕ → Bool)) (gs : List Glyph) (from so_far : Reached) (k : ℕ) → Sought skips tests gs from so_far k → length tests ≤ k → Some so_far ≡ reached_by from (seek skips tests (drop from.at gs))
+sought-all skips tests gs from so_far k sought all =
+    let met : seek skips tests (drop from.at gs) ≡ some sought.0 = sought.3 ∙ ap (λ ts. behind sought.0 (seek skips ts (drop so_far.at gs))) (drop_all k tests all) ∙ ap some (append-nil sought.0) in
+    let ended : Some so_far ≡ Some (record { at = ends from.at sought.0; far = far from.far sought.0 }) =
+    ap (λ i. Some (record { at = i; far = so_far.far })) sought.1 ∙ ap (λ c. Some (record { at = ends from.at sought.0; far = c })) sought.2 in
+    ended ∙ sym (ap (reached_by from) met)
 
-  pub sought-all : Some so_far ≡ reached_by from (seek skips tests (drop from.at gs))
-  sought-all =
-      let ended : Some so_far ≡ Some (record { at = ends from.at sought.0; far = far from.far sought.0 }) =
-      ap (λ i. Some (record { at = i; far = so_far.far })) sought.1 ∙ ap (λ c. Some (record { at = ends from.at sought.0; far = c })) sought.2 in
-      ended ∙ sym (ap (reached_by from) met-all)
+-- the indices noted so far are those of the glyphs that the entries so far met
+module _ (skips : ℕ → Bool) (tests : List (ℕ → Bool)) (gs : List Glyph) (at k : ℕ) (qs : List ℕ) where
+  abbrev pub Noted : Type 0
+  Noted =
+      (at ≡ past 0 qs)
+      × Outward 0 (length gs) qs
+      × (seek skips tests gs ≡ behind (mets_at gs 0 qs) (seek skips (drop k tests) (drop at gs)))
 
-  pub sought-met : length tests ≤ room → seek skips tests (drop from.at gs) ≡ some (mets_at gs from.at qs)
-  sought-met fits = met-all ∙ ap some (sought.4 fits).1
+  module _ (ms : List Met) (all : seek skips tests gs ≡ some ms) (noted : Noted) where
+    left-some : seek skips (drop k tests) (drop at gs) ≡ none → ⊥
+    left-some e = let no : some ms ≡ none = sym all ∙ noted.2 ∙ ap (behind (mets_at gs 0 qs)) e in cc
 
-  pub sought-outward : length tests ≤ room → Outward from.at (length gs) qs
-  sought-outward fits = (sought.4 fits).2
+    pub noted-all : length tests ≤ k → (ms ≡ mets_at gs 0 qs) × Outward 0 (length gs) qs
+    noted-all done =
+        let met : some ms ≡ some (mets_at gs 0 qs) = sym all ∙ noted.2 ∙ ap (λ ts. behind (mets_at gs 0 qs) (seek skips ts (drop at gs))) (drop_all k tests done) ∙ ap some (append-nil (mets_at gs 0 qs)) in
+        let same : ms ≡ mets_at gs 0 qs = cc in
+        (same, noted.1)
+
+    module _ (more : k < length tests) where
+      pub noted-none : None ≡ next_in skips (drop at gs) → ⊥
+      noted-none e = left-some (left-none skips tests gs at k more e)
+
+      module _ (next : Next) (is : next_in skips (drop at gs) ≡ Some next) (inside : at + next.gap < length gs) where
+        abbrev index : ℕ
+        index = at + next.gap
+
+        abbrev m : Met
+        m = record { gap = next.gap; cluster = next.glyph.cluster }
+
+        mets : mets_at gs 0 qs ++ m ∷ [] ≡ mets_at gs 0 (qs ++ index ∷ [])
+        mets =
+            let gap : next.gap ≡ index - past 0 qs = omega (arith, noted.0) in
+            let glyph : next.glyph ≡ glyph_at gs index = sym (next-at skips (drop at gs) next is) ∙ get_or-drop at gs next.gap (record { glyph = 0; cluster = 0 }) in
+            let same : m ≡ record { gap = index - past 0 qs; cluster = (glyph_at gs index).cluster } = cc in
+            ap (λ x. mets_at gs 0 qs ++ x ∷ []) same ∙ sym (mets-more gs 0 qs index)
+
+        goes : (b : Bool) → meets tests k next.glyph.glyph ≡ b → (index + 1 ≡ past 0 (qs ++ index ∷ [])) × Outward 0 (length gs) (qs ++ index ∷ [])
+            × (seek skips tests gs ≡ behind (mets_at gs 0 (qs ++ index ∷ [])) (seek skips (drop (k + 1) tests) (drop (index + 1) gs)))
+        goes false e = absurd (left-some (left-not skips tests gs at k more next is e))
+        goes true e =
+            let end : index + 1 ≡ suc index = omega arith in (
+              end ∙ sym (past-more 0 qs index),
+              outward-more 0 (length gs) qs index noted.1 (omega (arith, noted.0)) inside,
+              noted.2 ∙ ap (behind (mets_at gs 0 qs)) (left-on skips tests gs at k more next is e)
+                  ∙ behind-more (mets_at gs 0 qs) m (seek skips (drop (k + 1) tests) (drop (index + 1) gs))
+                  ∙ ap (λ xs. behind xs (seek skips (drop (k + 1) tests) (drop (index + 1) gs))) mets,
+            )
+
+pub noted-first : (skips : ℕ → Bool) (tests : List (ℕ → Bool)) (gs : List Glyph) → Noted skips tests gs 0 0 []
+noted-first skips tests gs = (refl, tt, sym (behind-none (seek skips tests gs)))
+
+pub noted-on : (skips : ℕ → Bool) (tests : List (ℕ → Bool)) (gs : List Glyph) (at k : ℕ) (qs : List ℕ) (ms : List Met) → seek skips tests gs ≡ some ms → Noted skips tests gs at k qs → k < length tests
+    → (next : Next) → next_in skips (drop at gs) ≡ Some next → at + next.gap < length gs → Noted skips tests gs (at + next.gap + 1) (k + 1) (qs ++ (at + next.gap) ∷ [])
+noted-on skips tests gs at k qs ms all noted more next is inside = goes skips tests gs at k qs ms all noted more next is inside (meets tests k next.glyph.glyph) refl

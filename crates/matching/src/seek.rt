@@ -1,6 +1,6 @@
-ghost use Rattle.std.specs.Prelude.{◌≡◌, ◌≤◌, length, take, drop, slice_set, IfSome};
+ghost use Rattle.std.specs.Prelude.{◌≡◌, ℕ, Bool, List, length, drop};
 ghost use Rattle.std.proofs.Math.Option.{some};
-ghost use Rattle.model.specs.Lookups.{seek};
+ghost use Rattle.model.specs.Lookups.{Met, seek};
 ghost use Rattle.matching.specs.Next.{skips};
 ghost use Rattle.matching.specs.Seek.{Outward, mets_at, reached_by};
 
@@ -30,29 +30,17 @@ pub struct Reached {
     pub far: u32,
 }
 
-// Notes an index, where there is a place for it.
-fn note(met: &mut [usize], k: usize, index: usize)
-    ensures { met.new ≡ slice_set met.old k index }
-{
-    if k < met.len() {
-        met[k] = index;
-    }
-}
-
 impl<S: FontSource> Passing<'_, S> {
-    // Whether all entries are met, each by the next glyph that is not passed over, from where another search ended. Answers where this one ended. `met` gets the indices of the glyphs met, as many as it has places for; no place behind those changes.
+    // Whether all entries are met, each by the next glyph that is not passed over, from where another search ended. Answers where this one ended.
     pub fn seek<G: Glyphs, E: Entries>(
         &self,
         glyphs: &G,
         from: Reached,
         entries: &E,
-        met: &mut [usize],
     ) -> Option<Reached>
-        ensures reached { result ≡ reached_by from (seek (skips (S.FontSource.means self.now.source.now) self.now.flag self.now.mark_set) (E.Entries.tests entries.now) (drop from.at (G.Glyphs.glyphs glyphs.now))) }
-        ensures met { length (E.Entries.tests entries.now) ≤ length met.old → IfSome result (λ _. seek (skips (S.FontSource.means self.now.source.now) self.now.flag self.now.mark_set) (E.Entries.tests entries.now) (drop from.at (G.Glyphs.glyphs glyphs.now)) ≡ some (mets_at (G.Glyphs.glyphs glyphs.now) from.at (take (length (E.Entries.tests entries.now)) met.new))) }
-        ensures outward { length (E.Entries.tests entries.now) ≤ length met.old → IfSome result (λ _. Outward from.at (length (G.Glyphs.glyphs glyphs.now)) (take (length (E.Entries.tests entries.now)) met.new)) }
-        ensures rest { drop (length (E.Entries.tests entries.now)) met.new ≡ drop (length (E.Entries.tests entries.now)) met.old }
-        ensures len { length met.new ≡ length met.old }
+        ensures { result ≡ reached_by from (seek
+            (skips (S.FontSource.means self.now.source.now) self.now.flag self.now.mark_set)
+            (E.Entries.tests entries.now) (drop from.at (G.Glyphs.glyphs glyphs.now))) }
     {
         let mut so_far = from;
         for k in 0..entries.len() {
@@ -60,13 +48,29 @@ impl<S: FontSource> Passing<'_, S> {
             if !entries.meets(k, next.glyph.glyph) {
                 return None;
             }
-            let index = so_far.at + next.gap;
-            note(met, k, index);
             so_far = Reached {
-                at: index + 1,
+                at: so_far.at + next.gap + 1,
                 far: next.glyph.cluster,
             };
         }
         Some(so_far)
+    }
+
+    // Notes the indices of the next glyphs that are not passed over, as many as there are places: where as many entries were met, by these glyphs.
+    pub(crate) fn note<G: Glyphs>(&self, glyphs: &G, met: &mut [usize])
+        ensures { (tests : List (ℕ → Bool)) (ms : List Met) → length tests ≡ length met.old
+            → seek (skips (S.FontSource.means self.now.source.now) self.now.flag self.now.mark_set)
+            tests (G.Glyphs.glyphs glyphs.now) ≡ some ms
+            → (ms ≡ mets_at (G.Glyphs.glyphs glyphs.now) 0 met.new)
+            × Outward 0 (length (G.Glyphs.glyphs glyphs.now)) met.new }
+    {
+        let mut at = 0;
+        for place in met.iter_mut() {
+            let Some(next) = self.next(glyphs, at) else {
+                return;
+            };
+            *place = at + next.gap;
+            at = *place + 1;
+        }
     }
 }

@@ -103,21 +103,19 @@ fn marks_are_passed_over(rt: HostRuntime) -> Result<(), Fail> {
         Some((2, 0))
     );
     assert!(rt; passing.next(&ahead, 3).is_none());
-    let mut met = [9];
     let start = Reached { at: 0, far: 7 };
-    let reached = passing.seek(&ahead, start, &Same(2), &mut met);
+    let reached = passing.seek(&ahead, start, &Same(2));
     assert_eq!(rt;
         reached.map(|reached| (reached.at, reached.far)),
         Some((3, 3))
     );
-    assert_eq!(rt; met, [2]);
-    let reached = passing.seek(&back, start, &Same(1), &mut []);
+    let reached = passing.seek(&back, start, &Same(1));
     assert_eq!(rt;
         reached.map(|reached| (reached.at, reached.far)),
         Some((3, 0))
     );
-    assert!(rt; passing.seek(&ahead, start, &Same(1), &mut met).is_none());
-    assert!(rt; passing.seek(&ahead, start, &Same(3), &mut met).is_none());
+    assert!(rt; passing.seek(&ahead, start, &Same(1)).is_none());
+    assert!(rt; passing.seek(&ahead, start, &Same(3)).is_none());
     let after_1 = Around {
         backtrack: Same(1),
         input: Nothing,
@@ -130,9 +128,14 @@ fn marks_are_passed_over(rt: HostRuntime) -> Result<(), Fail> {
         input: Same(2),
         lookahead: Nothing,
     };
+    let mut met = [9, 8];
+    assert!(rt; passing.matches(&run, 3, &before_2, &mut met).is_none());
+    assert_eq!(rt; met, [9, 8]);
     let span = passing.matches(&run, 0, &before_2, &mut met);
     assert_eq!(rt; span.map(|span| (span.lo, span.hi)), Some((0, 3)));
-    assert!(rt; passing.matches(&run, 3, &before_2, &mut met).is_none());
+    assert_eq!(rt; met, [2, 8]);
+    let span = passing.matches(&run, 0, &before_2, &mut []);
+    assert_eq!(rt; span.map(|span| (span.lo, span.hi)), Some((0, 3)));
     assert!(rt; passing.matches(&run, 4, &after_1, &mut []).is_none());
     run.close();
     Ok(())

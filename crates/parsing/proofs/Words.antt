@@ -52,7 +52,7 @@ number_word word n = slice_split_none IsSpace word (no_space word n.0.1) where
 
 -- one word says only shape and clear
 pub one_says : (name : List ℕ) → (name ≢ codes "shape") × (name ≢ codes "clear") → (call : ScriptCall) → ¬ (Says (name ∷ []) call)
-one_says name other (Call.Shape nothing) says = other.0 cc
+one_says name other (Call.Shape u) says = other.0 cc
 one_says name other (Call.Line a b) says = absurd cc
 one_says name other (Call.Pay slip) says = absurd cc
 one_says name other (Call.Waive slip) says = absurd cc
@@ -60,7 +60,7 @@ one_says name other Call.Clear says = other.1 cc
 
 -- two words say only pay and waive, with a number
 pub two_says : (name word : List ℕ) → (IsNumber word → (name ≢ codes "pay") × (name ≢ codes "waive")) → (call : ScriptCall) → ¬ (Says (name ∷ word ∷ []) call)
-two_says name word other (Call.Shape nothing) says = absurd cc
+two_says name word other (Call.Shape u) says = absurd cc
 two_says name word other (Call.Line a b) says = let e = says.2 in absurd cc
 two_says name word other (Call.Pay slip) says =
     let w : says.0 ≡ word = let e = says.1 in cc in
@@ -75,7 +75,7 @@ some_words line e = let n : length (words_in line) ≡ 0 = ap length e in absurd
 
 -- more words say only line, with two numbers
 pub more_says : (name from to : List ℕ) → (IsNumber from → IsNumber to → name ≢ codes "line") → (call : ScriptCall) → ¬ (Says (name ∷ from ∷ words_in to) call)
-more_says name from to other (Call.Shape nothing) says = absurd cc
+more_says name from to other (Call.Shape u) says = absurd cc
 more_says name from to other (Call.Line a b) says =
     let e = says.2 in
     let f : says.0 ≡ from = cc in

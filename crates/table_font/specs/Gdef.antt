@@ -50,9 +50,12 @@ glyph_class t g = cond (nat_le (class_behind t (u16_at t 4) 0 g) 4) (class_behin
 abbrev pub mark_class_of : (table : List ℕ) → (glyph : ℕ) → ℕ
 mark_class_of t g = class_behind t (u16_at t 10) 0 g
 
--- Set k of the mark sets at s holds a glyph.
+-- Where set k of the mark sets at s starts, and whether it holds a glyph.
+abbrev pub set_start : (table : List ℕ) → (s k : ℕ) → ℕ
+set_start t s k = s + u32_at t (s + 4 + 4 * k)
+
 abbrev pub set_holds : (table : List ℕ) → (s k glyph : ℕ) → Bool
-set_holds t s k g = nat_lt k (u16_at t (s + 2)) && is_some (coverage_index t (s + u32_at t (s + 4 + 4 * k)) g)
+set_holds t s k g = nat_lt k (u16_at t (s + 2)) && is_some (coverage_index t (set_start t s k) g)
 
 abbrev pub in_set : (table : List ℕ) → (k glyph : ℕ) → Bool
 in_set t k g = not (mark_sets_offset t == 0) && set_holds t (mark_sets_offset t) k g

@@ -1,7 +1,7 @@
 ghost use Rattle.std.specs.Prelude.{◌≡◌, IfOk, None};
 ghost use Rattle.layout.specs.Bytes.{u32_at};
 ghost use Rattle.layout.specs.Faults.{first_in};
-ghost use Rattle.layout.specs.Ranges.{Inside, Rises, holding, ranges_of};
+ghost use Rattle.layout.specs.Ranges.{holding, ranges_of};
 ghost use Rattle.layout.specs.Told.{verdict, table_verdict};
 ghost use Rattle.layout.specs.declared.array.Kind.TheVariants.{Groups};
 ghost use Rattle.layout.specs.declared.fault.TableName.TheVariants.{Cmap as OfCmap};
@@ -10,7 +10,7 @@ ghost use Rattle.table_font.specs.TableFont.{table_faults};
 
 use crate::check::check_table;
 use crate::table::Cmap;
-use layout::array::{Kind, Range, RangeArray, Third};
+use layout::array::{Kind, Laid, Range, RangeArray, Rising, Third};
 use layout::bytes::{Field, Width};
 use layout::fault::{Rule, StructureFault, TableFault, TableName};
 use layout::structure::Structure;
@@ -18,7 +18,7 @@ use layout::structure::Structure;
 // The array of its groups.
 fn groups(table: &[u8]) -> RangeArray<'_>
     ensures structure { (result.structure.table.now ≡ table.now) × (result.structure.start ≡ 0) }
-    ensures ranges { first_in (cmap_faults table.now) ≡ None → (ranges_of result ≡ groups table.now) × Inside result × Rises 0 (ranges_of result) }
+    ensures ranges { ranges_of result ≡ groups table.now }
     ensures array { (result.kind ≡ Groups) × (result.at ≡ 16) × (result.count ≡ u32_at table.now 12) }
 {
     RangeArray {
@@ -69,6 +69,17 @@ impl<'a> Cmap<'a> {
         ensures group { result ≡ holding character (groups self.now.table.now) }
         ensures bound { Maps character result }
     {
-        groups(self.table).find(character)
+        self.groups().find(character)
+    }
+
+    // Its groups, which lie in the table and rise.
+    fn groups(&self) -> Rising<'a>
+        ensures { ranges_of result.laid.array ≡ groups self.now.table.now }
+    {
+        Rising {
+            laid: Laid {
+                array: groups(self.table),
+            },
+        }
     }
 }

@@ -1,11 +1,12 @@
-ghost use Rattle.std.specs.Prelude.{◌≡◌, ◌≢◌, ◌+◌, ◌*◌, ◌≤◌, IfOk, IfSome, IfNone, None};
+ghost use Rattle.std.specs.Prelude.{◌≡◌, ◌≢◌, ◌+◌, ◌*◌, ◌<◌, ◌≤◌, IfOk, IfSome, IfNone, None, is_some};
 ghost use Rattle.font.specs.Font.{class_number};
 ghost use Rattle.layout.specs.Bytes.{u16_at, u32_at};
 ghost use Rattle.layout.specs.Classes.{class_faults, class_behind};
+ghost use Rattle.layout.specs.Coverages.{coverage_index};
 ghost use Rattle.layout.specs.Faults.{first_in, in_turn, if_there};
 ghost use Rattle.layout.specs.Told.{verdict, table_verdict};
 ghost use Rattle.layout.specs.declared.fault.TableName.TheVariants.{Gdef as OfGdef};
-ghost use Rattle.table_font.specs.Gdef.{classes_offset, header_faults, followed_faults, mark_sets_offset, set_faults_at, mark_sets_faults, gdef_faults, glyph_class, mark_class_of, set_holds, in_set};
+ghost use Rattle.table_font.specs.Gdef.{classes_offset, header_faults, followed_faults, mark_sets_offset, set_faults_at, mark_sets_faults, gdef_faults, glyph_class, mark_class_of, set_holds, set_start, in_set};
 ghost use Rattle.table_font.specs.TableFont.{table_faults};
 
 use crate::check::check_table;
@@ -37,24 +38,24 @@ enum Classes {
     OfMarks = 10,
 }
 
-// One of them; none where the offset is 0.
-fn class_definition(table: &[u8], of: Classes) -> Option<ClassDefinition<'_>>
-    ensures some { IfSome result (λ classes. (classes.structure.table.now ≡ table.now) × (classes.structure.start ≡ classes_offset table.now of) × (classes_offset table.now of ≢ 0)) }
+// The structure of one of them; none where the offset is 0.
+fn class_structure(table: &[u8], of: Classes) -> Option<Structure<'_>>
+    ensures some { IfSome result (λ classes. (classes.table.now ≡ table.now)
+        × (classes.start ≡ classes_offset table.now of) × (classes_offset table.now of ≢ 0)) }
     ensures none { IfNone result (classes_offset table.now of ≡ 0) }
 {
     let header = Structure { table, start: 0 };
-    let structure = header.behind(of as usize)?;
-    Some(ClassDefinition { structure })
+    header.behind(of as usize)
 }
 
-// As with mark sets, a `match`: by `map_or` with a closure the proof is longer than the lines that it would save.
+// The first fault of one of them, if it is there.
 fn check_classes(table: &[u8], of: Classes) -> Result<(), StructureFault>
     ensures { verdict result ≡ first_in (if_there (classes_offset table.now of) 0 (class_faults table.now)) }
 {
-    match class_definition(table, of) {
-        Some(classes) => classes.check(),
-        None => Ok(()),
+    if let Some(structure) = class_structure(table, of) {
+        ClassDefinition::checked(structure)?;
     }
+    Ok(())
 }
 
 // The structure that mark sets are.
@@ -111,19 +112,20 @@ impl<'a> MarkSets<'a> {
     {
         let offset = u32::read(self.structure.table, at);
         self.structure.require(offset != 0, Rule::Unknown, at)?;
-        self.coverage(at).check()
+        Coverage::checked(self.set(at))?;
+        Ok(())
     }
 
-    // The coverage that the offset at a byte leads to.
-    fn coverage(&self, at: usize) -> Coverage<'a>
-        ensures table { result.structure.table.now ≡ self.now.structure.table.now }
-        ensures start { result.structure.start ≡ self.now.structure.start + u32_at self.now.structure.table.now at }
+    // The structure that the offset at a byte leads to.
+    fn set(&self, at: usize) -> Structure<'a>
+        ensures table { result.table.now ≡ self.now.structure.table.now }
+        ensures start { result.start
+            ≡ self.now.structure.start + u32_at self.now.structure.table.now at }
     {
         let table = self.structure.table;
         // It fits, as 16 and 32 bits do; a conversion that can fail would add a case.
         let start = self.structure.start + u32::read(table, at) as usize;
-        let structure = Structure { table, start };
-        Coverage { structure }
+        Structure { table, start }
     }
 
     // Whether set k holds a glyph.
@@ -131,7 +133,18 @@ impl<'a> MarkSets<'a> {
         requires { first_in (mark_sets_faults self.now.structure.table.now self.now.structure.start) ≡ None }
         ensures { result ≡ set_holds self.now.structure.table.now self.now.structure.start k glyph }
     {
-        k < self.structure.u16_in(2) && self.coverage(self.byte_of(k)).index_of(glyph).is_some()
+        k < self.structure.u16_in(2) && self.set_holds(k, glyph)
+    }
+
+    fn set_holds(&self, k: u16, glyph: u16) -> bool
+        requires faults { first_in
+            (mark_sets_faults self.now.structure.table.now self.now.structure.start) ≡ None }
+        requires there { k < u16_at self.now.structure.table.now (self.now.structure.start + 2) }
+        ensures { result ≡ is_some (coverage_index self.now.structure.table.now
+            (set_start self.now.structure.table.now self.now.structure.start k) glyph) }
+    {
+        let structure = self.set(self.byte_of(k));
+        Coverage { structure }.index_of(glyph).is_some()
     }
 }
 
@@ -179,8 +192,8 @@ impl<'a> Gdef<'a> {
     fn class_by(&self, of: Classes, glyph: u16) -> u16
         ensures { result ≡ class_behind self.now.table.now (classes_offset self.now.table.now of) 0 glyph }
     {
-        match class_definition(self.table, of) {
-            Some(classes) => classes.class_of(glyph),
+        match class_structure(self.table, of) {
+            Some(structure) => ClassDefinition { structure }.class_of(glyph),
             None => 0,
         }
     }

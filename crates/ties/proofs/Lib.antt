@@ -1,1 +1,2 @@
 mod Notes
+mod Tied

@@ -1,15 +1,16 @@
 // Which clusters of a text are tied, in the memory that its break marks go into.
 #![tactic(auto)]
 
-ghost use Rattle.std.specs.Prelude.{◌≡◌, ◌<◌, ◌==◌, ℕ, cond, length, map, replicate};
+ghost use Rattle.std.specs.Prelude.{◌≡◌, ◌<◌, ◌==◌, ℕ, cond, length, map, replicate, slice_index};
 ghost use Rattle.model.specs.Shaping.{tie, marks as marks_of};
 ghost use Rattle.run.specs.Contents.{glyphs_of};
-ghost use Rattle.ties.specs.Ties.{tied_in, noted};
+ghost use Rattle.ties.specs.Ties.{tied_in, tied_mark, noted};
 
 use run::Run;
 
 // Ties the clusters behind `lo` up to `hi`, as far as there are marks.
 pub fn tie(marks: &mut [u8], lo: u32, hi: u32)
+    ensures marks { (b : ℕ) → b < length marks.old → slice_index marks.new b ≡ tied_mark lo hi marks.old b }
     ensures tied { hi < length marks.old → (b : ℕ) → tied_in marks.new b ≡ tie lo hi (tied_in marks.old) b }
     ensures len { length marks.new ≡ length marks.old }
 {

@@ -18,3 +18,9 @@ returns-clause-outward g c =
     let n : length (asked e) ≡ e.array.count = length-tests (test_of e.part.now e.asks) e.part.now e.array.at e.array.count in
     let few = c.args.self.now.few in
     (few, rw n at (c.in_ok-span.ensures.outward (rw n (omega arith))))
+
+pub returns-clause-left : goal.returns-clause-left
+returns-clause-left g c =
+    let e = c.args.self.now.input in
+    let n : length (asked e) ≡ e.array.count = length-tests (test_of e.part.now e.asks) e.part.now e.array.at e.array.count in
+    rw n at c.in_ok-span.ensures.rest

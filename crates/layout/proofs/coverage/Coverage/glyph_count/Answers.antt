@@ -7,9 +7,10 @@ use Rattle.layout.proofs.Arrays.{array-order, counted-array, coverage-counted, c
 use Rattle.layout.proofs.coverage.Coverage.glyph_count.Goals as goal
 
 pub returns-in-Some : goal.returns-in-Some
-returns-in-Some c = λ none.
+returns-in-Some c =
     let t = c.args.self.now.structure.table.now in
     let s = c.args.self.now.structure.start in
-    let l = c.in-Some.ensures (c.ranges-2.ensures.inside none) ∙ ap last_of (c.ranges-2.ensures.ranges none) in
-    let n = count-last (kind_of (u16_at t s)) s (s + 4) (coverage_ranges t s) c.in-Some.range (array-order StartIndex (kind_of (u16_at t s)) t s (s + 4) (u16_at t (s + 2)) (counted-array StartIndex (kind_of (u16_at t s)) t s (coverage-counted t s none))) l in
+    let kind = kind_of (u16_at t s) in
+    let l = c.in-Some.ensures ∙ ap last_of c.ranges-2.ensures in
+    let n = count-last kind s (s + 4) (coverage_ranges t s) c.in-Some.range (array-order StartIndex kind t s (s + 4) (u16_at t (s + 2)) (counted-array StartIndex kind t s (coverage-counted t s c.args.self.now.accepted))) l in
     omega arith

@@ -1,69 +1,30 @@
-use Rattle.std.proofs.Common.{◌≡◌, suc, ◌+◌, drop, take, length, reverse, sym, ap, ◌∙◌, arith}
-use Rattle.std.proofs.Math.Option.{some}
+use Rattle.std.proofs.Common.{ℕ, ◌≡◌, [], length, take, drop, sym, ◌∙◌, arith, length-take}
 use Rattle.run.specs.Contents.{glyphs_of}
+use Rattle.model.specs.Lookups.{nest}
 use Rattle.matching.specs.Next.{skips}
-use Rattle.matching.specs.Seek.{mets_at}
-use Rattle.matching.specs.Match.{spanned}
-use Rattle.matching.proofs.Matches.{reached-some, no-input, no-lookahead, all-met, not-ahead, match-at}
+use Rattle.matching.proofs.Matches.{input-noted}
 use Rattle.matching.proofs.passing.Passing.matches.Goals as goal
 
-pub returns-in_err-input-clause-span : goal.returns-in_err-input-clause-span
-returns-in_err-input-clause-span g c = λ action inside.
+pub returns-then-inputs-met-clause-input : goal.returns-then-inputs-met-clause-input
+returns-then-inputs-met-clause-input g c = λ action fits.
     let sk = skips (g.S.FontSource.means c.args.self.now.source.now) c.args.self.now.flag c.args.self.now.mark_set in
     let is = g.I.Entries.tests c.args.around.now.input in
     let ls = g.L.Entries.tests c.args.around.now.lookahead in
     let bs = g.B.Entries.tests c.args.around.now.backtrack in
-    let gs = glyphs_of c.args.run.now in
-    let p = c.args.p in
-    c.from_residual-in_err-input.ensures
-    ∙ not-ahead sk (record { backtrack = bs; input = is; lookahead = ls }) action gs p
-    (no-input sk is ls bs (drop (p + 1) gs) (reverse (take p gs)) c.in_ok-get.field-0.cluster (sym c.in_err-input.was ∙ c.seek.ensures.reached))
+    let len = c.note.auto.met in
+    let long : length c.note.new.met ≡ length is = omega (arith, len, length-take {A = ℕ}, c.len-inputs.ensures, c.if-inputs-met.true) in
+    (input-noted sk (record { backtrack = bs; input = is; lookahead = ls }) action (glyphs_of c.args.run.now) c.args.p c.in_ok-span.span
+    c.note.new.met _ (sym c.in_ok-span.was ∙ c.span.ensures.span action c.in_ok-span.ensures.inside) long
+    (λ tests ms e. c.note.ensures tests ms (e ∙ len))).0
 
-pub returns-in_err-lookahead-clause-span : goal.returns-in_err-lookahead-clause-span
-returns-in_err-lookahead-clause-span g c = λ action inside.
+pub returns-then-inputs-met-clause-outward : goal.returns-then-inputs-met-clause-outward
+returns-then-inputs-met-clause-outward g c = λ fits.
     let sk = skips (g.S.FontSource.means c.args.self.now.source.now) c.args.self.now.flag c.args.self.now.mark_set in
     let is = g.I.Entries.tests c.args.around.now.input in
     let ls = g.L.Entries.tests c.args.around.now.lookahead in
     let bs = g.B.Entries.tests c.args.around.now.backtrack in
-    let gs = glyphs_of c.args.run.now in
-    let p = c.args.p in
-    let own = c.in_ok-get.field-0.cluster in
-    let reached = sym c.in_ok-input.was ∙ c.seek.ensures.reached in
-    let met = reached-some (record { at = 0; far = own }) c.in_ok-input.input _ reached in
-    c.from_residual-in_err-lookahead.ensures
-    ∙ not-ahead sk (record { backtrack = bs; input = is; lookahead = ls }) action gs p
-    (no-lookahead sk is ls bs (drop (p + 1) gs) (reverse (take p gs)) own met.0 met.1 c.in_ok-input.input reached (sym c.in_err-lookahead.was ∙ c.seek-2.ensures.reached))
-
-pub returns-clause-span : goal.returns-clause-span
-returns-clause-span g c = λ action inside.
-    let sk = skips (g.S.FontSource.means c.args.self.now.source.now) c.args.self.now.flag c.args.self.now.mark_set in
-    let is = g.I.Entries.tests c.args.around.now.input in
-    let ls = g.L.Entries.tests c.args.around.now.lookahead in
-    let bs = g.B.Entries.tests c.args.around.now.backtrack in
-    let gs = glyphs_of c.args.run.now in
-    let p = c.args.p in
-    let own = c.in_ok-get.field-0.cluster in
-    let reached = sym c.in_ok-input.was ∙ c.seek.ensures.reached in
-    let met = reached-some (record { at = 0; far = own }) c.in_ok-input.input _ reached in
-    let looked = sym c.in_ok-lookahead.was ∙ c.seek-2.ensures.reached in
-    let backed = sym c.in_ok-back.was ∙ c.seek-3.ensures.reached in
-    sym (ap spanned (match-at sk (record { backtrack = bs; input = is; lookahead = ls }) action gs p c.in_ok-get.field-0 met.0 c.in_ok-back.back.far c.in_ok-lookahead.lookahead.far (sym c.get.ensures ∙ c.in_ok-get.was)
-    (all-met sk is ls bs (drop (p + 1) gs) (reverse (take p gs)) own met.0 met.1 c.in_ok-input.input reached action c.in_ok-lookahead.lookahead c.in_ok-back.back looked backed)))
-
-pub returns-clause-input : goal.returns-clause-input
-returns-clause-input g c = λ action fits.
-    let sk = skips (g.S.FontSource.means c.args.self.now.source.now) c.args.self.now.flag c.args.self.now.mark_set in
-    let is = g.I.Entries.tests c.args.around.now.input in
-    let ls = g.L.Entries.tests c.args.around.now.lookahead in
-    let bs = g.B.Entries.tests c.args.around.now.backtrack in
-    let gs = glyphs_of c.args.run.now in
-    let p = c.args.p in
-    let own = c.in_ok-get.field-0.cluster in
-    let reached = sym c.in_ok-input.was ∙ c.seek.ensures.reached in
-    let looked = sym c.in_ok-lookahead.was ∙ c.seek-2.ensures.reached in
-    let backed = sym c.in_ok-back.was ∙ c.seek-3.ensures.reached in
-    let qs = take (length is) c.seek.new.met in
-    let one : p + 1 ≡ suc p = omega arith in
-    let met = c.in_ok-input.ensures.met fits ∙ ap (λ n. some (mets_at (drop n gs) 0 qs)) one in
-    match-at sk (record { backtrack = bs; input = is; lookahead = ls }) action gs p c.in_ok-get.field-0 (mets_at (drop (suc p) gs) 0 qs) c.in_ok-back.back.far c.in_ok-lookahead.lookahead.far (sym c.get.ensures ∙ c.in_ok-get.was)
-    (all-met sk is ls bs (drop (p + 1) gs) (reverse (take p gs)) own (mets_at (drop (suc p) gs) 0 qs) met c.in_ok-input.input reached action c.in_ok-lookahead.lookahead c.in_ok-back.back looked backed)
+    let len = c.note.auto.met in
+    let long : length c.note.new.met ≡ length is = omega (arith, len, length-take {A = ℕ}, c.len-inputs.ensures, c.if-inputs-met.true) in
+    (input-noted sk (record { backtrack = bs; input = is; lookahead = ls }) (nest []) (glyphs_of c.args.run.now) c.args.p c.in_ok-span.span
+    c.note.new.met _ (sym c.in_ok-span.was ∙ c.span.ensures.span (nest []) c.in_ok-span.ensures.inside) long
+    (λ tests ms e. c.note.ensures tests ms (e ∙ len))).1
