@@ -87,12 +87,7 @@ impl<S: MeasuredSource> Given<'_, S> {
             cluster: 0,
         };
         let mut run = vec![in self.heap; blank; count]?;
-        pick(
-            self.whole.run,
-            ends.from,
-            ends.to,
-            run.as_mut_slice(),
-        )?;
+        pick(self.whole.run, ends.from, ends.to, run.as_mut_slice())?;
         let marks = self
             .whole
             .marks
@@ -104,11 +99,13 @@ impl<S: MeasuredSource> Given<'_, S> {
     // A line that was paid for, with what was given from it on.
     fn paid(&self, ends: Ends, slip: usize, rest: &mut Part<'_>) -> Result<String, Failure> {
         match self.payments.get(slip.saturating_sub(1)) {
-            Some(Answer::Paid {
-                glyphs,
-                marks,
-                hits: _,
-            }) => {
+            Some(
+                Answer::Paid {
+                    glyphs,
+                    marks,
+                    hits: _,
+                },
+            ) => {
                 let part = rest.take(*glyphs, *marks);
                 self.line(ends, "paid", part.run, part.marks)
             }

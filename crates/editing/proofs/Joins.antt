@@ -1,7 +1,7 @@
 -- Clusters merged and glyphs removed, where a ligature stands at its first component.
 use Rattle.std.proofs.Common.{◌≡◌, ℕ, zero, suc, ◌+◌, ◌-◌, ◌<◌, ◌≤◌, Bool, true, false, cond, ◌&&◌, if◌then◌else◌, leb, nat_lt, nat_le, List, [], ◌∷◌, ◌++◌, map, length, get_or, take, drop, refl, sym, ap, ap₂, ◌∙◌, append_assoc, arith, length-append, length-take}
 use Rattle.std.proofs.lemmas.Bool.{lt-ltb, le-leb}
-use Rattle.std.proofs.lemmas.List.{get_or-map, take-map, drop-map, map-append, take-append-drop, length-map}
+use Rattle.std.proofs.lemmas.List.{drop_more, get_or_at, take-map, drop-map, map-append, take-append-drop}
 use lib.Seq.{take_at, drop_at}
 use Rattle.std.specs.List.{AllByRecursion}
 use Rattle.model.specs.declared.Glyph.{Glyph}
@@ -11,6 +11,7 @@ use Rattle.model.specs.Laws.{Rising}
 use Rattle.matching.specs.Seek.{glyph_at, mets_at}
 use Rattle.run.specs.Runs.{merged_from, merged_while, replaced}
 use Rattle.run.proofs.Merges.{merges-whole-run}
+use Rattle.editing.specs.Joins.{joined, ligated}
 use Rattle.editing.proofs.Tables.{length-put}
 
 length-while : (lo hi : ℕ) (gs : List Glyph) → length (merged_while lo hi gs) ≡ length gs
@@ -56,23 +57,58 @@ same : (t : Bool) (n : ℕ) → cond t n n ≡ n
 same true n = refl
 same false n = refl
 
--- merged, replaced and removed: the glyphs are joined
-pub joined : (gs : List Glyph) (p n : ℕ) (ms : List Met) → p < length gs
-    → take (p + 1) (replaced p (n ∷ []) (map (merged (glyph_at gs p).cluster (far (glyph_at gs p).cluster ms)) gs)) ++ without ms (drop (p + 1) (replaced p (n ∷ []) (map (merged (glyph_at gs p).cluster (far (glyph_at gs p).cluster ms)) gs)))
-    ≡ changed (join n) (glyph_at gs p).cluster ms p gs
-joined gs p n ms l =
+-- the first component keeps its cluster
+own-kept : (gs : List Glyph) (p hi : ℕ) → p < length gs → (glyph_at (merged_from p (glyph_at gs p).cluster hi gs) p).cluster ≡ (glyph_at gs p).cluster
+own-kept gs p hi l =
+    let own : ℕ = (glyph_at gs p).cluster in
+    let blank : Glyph = record { glyph = 0; cluster = 0 } in
+    let rest : List Glyph = drop (p + 1) gs in
+    let long : length (take p gs) ≡ p = simp length-take (omega (arith, l)) in
+    let first : drop p gs ≡ glyph_at gs p ∷ rest = drop_more gs p blank l in
+    ap (λ g. g.cluster) (ap (λ xs. glyph_at (take p gs ++ merged_while own hi xs) p) first ∙ by (glyph_at gs p) rest (leb own hi) long)
+    ∙ same-cluster (leb own hi) (glyph_at gs p)
+  where
+    first-of : Bool → ℕ → Glyph → Glyph
+    first-of t c g = cond t (at_cluster c g.glyph) g
+
+    same-cluster : (t : Bool) (g : Glyph) → (first-of t g.cluster g).cluster ≡ g.cluster
+    same-cluster true g = refl
+    same-cluster false g = refl
+
+    by : (g : Glyph) (rest : List Glyph) (t : Bool) → length (take p gs) ≡ p
+        → glyph_at (take p gs ++ cond t (at_cluster (glyph_at gs p).cluster g.glyph ∷ merged_while (glyph_at gs p).cluster hi rest) (g ∷ rest)) p ≡ first-of t (glyph_at gs p).cluster g
+    by g rest true long = get_or_at (take p gs) (at_cluster (glyph_at gs p).cluster g.glyph) (merged_while (glyph_at gs p).cluster hi rest) (record { glyph = 0; cluster = 0 }) p long
+    by g rest false long = get_or_at (take p gs) g rest (record { glyph = 0; cluster = 0 }) p long
+
+-- replaced and removed: the ligature stands
+ligated-at : (gs : List Glyph) (p n c : ℕ) (ms : List Met) → p < length gs → (glyph_at gs p).cluster ≡ c
+    → take (p + 1) (replaced p (n ∷ []) gs) ++ without ms (drop (p + 1) (replaced p (n ∷ []) gs)) ≡ ligated n c ms p gs
+ligated-at gs p n c ms l e =
+    let first : List Glyph = take p gs ++ at_cluster c n ∷ [] in
+    let rest : List Glyph = drop (suc p) gs in
+    let split : replaced p (n ∷ []) gs ≡ first ++ rest =
+    ap (λ k. take p gs ++ (at_cluster k n ∷ rest)) e ∙ sym (append_assoc (take p gs) (at_cluster c n ∷ []) rest) in
+    let long : length first ≡ p + 1 = simp (length-append, length-take) (omega (arith, l)) in
+    ap₂ (λ a b. a ++ without ms b) (ap (take (p + 1)) split ∙ take_at first rest (p + 1) long) (ap (drop (p + 1)) split ∙ drop_at first rest (p + 1) long)
+    ∙ append_assoc (take p gs) (at_cluster c n ∷ []) (without ms rest)
+
+-- merged first: the glyphs are joined
+pub joined-at : (gs gs' : List Glyph) (p n : ℕ) (ms : List Met) → p < length gs → gs' ≡ merged_from p (glyph_at gs p).cluster (far (glyph_at gs p).cluster ms) gs
+    → take (p + 1) (replaced p (n ∷ []) gs') ++ without ms (drop (p + 1) (replaced p (n ∷ []) gs')) ≡ joined n ms p gs
+joined-at gs gs' p n ms l e =
+    let own : ℕ = (glyph_at gs p).cluster in
+    let hi : ℕ = far own ms in
+    let long : length gs' ≡ length gs = ap length e ∙ length-merged p own hi gs in
+    let kept : (glyph_at gs' p).cluster ≡ own = ap (λ xs. (glyph_at xs p).cluster) e ∙ own-kept gs p hi l in
+    ligated-at gs' p n own ms (omega (arith, long, l)) kept ∙ ap (ligated n own ms p) e
+
+-- in a run whose clusters never fall that is the definitions' change
+pub joined-changed : (gs : List Glyph) (p n : ℕ) (ms : List Met) → Rising gs → p < length gs → joined n ms p gs ≡ changed (join n) (glyph_at gs p).cluster ms p gs
+joined-changed gs p n ms r l =
     let own : ℕ = (glyph_at gs p).cluster in
     let M : Glyph → Glyph = merged own (far own ms) in
-    let blank : Glyph = record { glyph = 0; cluster = 0 } in
-    let c : ℕ = (glyph_at (map M gs) p).cluster in
-    let is : c ≡ own = ap (λ g. g.cluster) (get_or-map M gs p blank blank l) ∙ same (leb own own && leb own (far own ms)) own in
-    let first : List Glyph = take p (map M gs) ++ at_cluster c n ∷ [] in
-    let rest : List Glyph = drop (suc p) (map M gs) in
-    let split : replaced p (n ∷ []) (map M gs) ≡ first ++ rest = sym (append_assoc (take p (map M gs)) (at_cluster c n ∷ []) rest) in
-    let long : length first ≡ p + 1 = simp (length-append, length-take, length-map) (omega (arith, l)) in
-    let lig : at_cluster c n ≡ M (at_cluster own n) = ap (λ k. at_cluster k n) (is ∙ sym (same (leb own own && leb own (far own ms)) own)) in
-    ap₂ (λ a b. a ++ without ms b) (ap (take (p + 1)) split ∙ take_at first rest (p + 1) long) (ap (drop (p + 1)) split ∙ drop_at first rest (p + 1) long)
-    ∙ append_assoc (take p (map M gs)) (at_cluster c n ∷ []) (without ms rest)
+    let lig : at_cluster own n ≡ M (at_cluster own n) = ap (λ k. at_cluster k n) (sym (same (leb own own && leb own (far own ms)) own)) in
+    ap (ligated n own ms p) (merged-whole gs p (far own ms) r l)
     ∙ ap₂ (λ a b. a ++ b) (take-map M p gs) (ap₂ (λ g b. g ∷ b) lig (ap (without ms) (drop-map M (suc p) gs) ∙ without-map M ms (drop (suc p) gs)))
     ∙ sym (map-append M (take p gs) (at_cluster own n ∷ without ms (drop (suc p) gs)))
 

@@ -1,5 +1,5 @@
 ghost use Rattle.std.proofs.Props.{props};
-ghost use Rattle.std.specs.Prelude.{◌≡◌, ℕ, ◌+◌, ◌-◌, ◌^◌, ◌++◌, ◌≤◌, ◌<◌, ◌∷◌, ◌&&◌, [], List, true, false, suc, cond, take, drop, map, length, nat_lt, nat_le, slice_get, option_map, IfSome, None};
+ghost use Rattle.std.specs.Prelude.{◌≡◌, ℕ, ◌+◌, ◌-◌, ◌^◌, ◌++◌, ◌≤◌, ◌<◌, ◌∷◌, ◌&&◌, [], List, true, false, suc, cond, take, drop, map, length, nat_lt, nat_le, slice_get, option_map, IfSome, IsTrue, ◌↔◌, None};
 ghost use Rattle.std.specs.List.{AllByRecursion};
 ghost use Rattle.model.specs.declared.Glyph.{Glyph};
 ghost use Rattle.model.specs.Lookups.{Met, far as far_of, put, join};
@@ -8,6 +8,7 @@ ghost use Rattle.model.specs.Laws.{Rising};
 ghost use Rattle.matching.specs.Seek.{Outward, glyph_at, mets_at};
 ghost use Rattle.run.specs.Contents.{glyphs_of as glyphs_in, room_of as room_in, lender_of as lender_in};
 ghost use Rattle.editing.specs.Frames.{frame_of, innermost_first, edit, Inside, Fits};
+ghost use Rattle.editing.specs.Joins.{LiesIn, further, joined};
 
 use crate::frame::Frame;
 use run::Run;
@@ -59,8 +60,10 @@ impl<'a> Editing<'a> {
 
     // Opens a match at position `p`, with further input at these indices, counted from the glyph behind it. False, and nothing changes, where six matches are open, the input is of more than 64 glyphs, or it does not rise in the run.
     pub fn open_match(&mut self, p: usize, met: &[usize]) -> bool
-        ensures answer { p < length (glyphs_of self.old) → Outward 0 (length (drop (suc p) (glyphs_of self.old))) met.now → length met.now ≤ 63 → length (open_of self.old) < 6 → result ≡ true }
-        ensures open { result ≡ true → open_of self.new ≡ frame_at p (mets_at (drop (suc p) (glyphs_of self.old)) 0 met.now) ∷ open_of self.old }
+        ensures answer { IsTrue result ↔ (LiesIn (glyphs_of self.old) p met.now
+            × (length met.now ≤ 63) × (length (open_of self.old) < 6)) }
+        ensures open { result ≡ true → open_of self.new
+            ≡ frame_at p (further (glyphs_of self.old) p met.now) ∷ open_of self.old }
         ensures unchanged { result ≡ false → open_of self.new ≡ open_of self.old }
         ensures glyphs { glyphs_of self.new ≡ glyphs_of self.old }
         ensures fits { length (glyphs_of self.new) ≤ room_of self.new }
@@ -112,23 +115,35 @@ impl<'a> Editing<'a> {
         true
     }
 
-    // Joins the glyph at `p` and those with these indices, counted from the glyph behind it, into a ligature. It stands at `p`, the others go, and clusters merge from the first to the last of them. Nothing changes where the indices do not rise in the run.
-    pub fn join(&mut self, p: usize, ligature: u16, met: &[usize])
-        ensures glyphs { p < length (glyphs_of self.old) → Rising (glyphs_of self.old) → Outward 0 (length (drop (suc p) (glyphs_of self.old))) met.now → glyphs_of self.new ≡ changed (join ligature) (glyph_at (glyphs_of self.old) p).cluster (mets_at (drop (suc p) (glyphs_of self.old)) 0 met.now) p (glyphs_of self.old) }
-        ensures open { p < length (glyphs_of self.old) → Outward 0 (length (drop (suc p) (glyphs_of self.old))) met.now → open_of self.new ≡ map (told (edits (join ligature) (mets_at (drop (suc p) (glyphs_of self.old)) 0 met.now) p)) (open_of self.old) }
+    // Joins the glyph at `p` and those with these indices, counted from the glyph behind it, into a ligature. It stands at `p`, the others go, and clusters merge from the first to the last of them. False, and nothing changes, where there is no such glyph, or the indices do not rise in the run.
+    pub fn join(&mut self, p: usize, ligature: u16, met: &[usize]) -> bool
+        ensures answer { IsTrue result ↔ LiesIn (glyphs_of self.old) p met.now }
+        ensures glyphs { result ≡ true → glyphs_of self.new
+            ≡ joined ligature (further (glyphs_of self.old) p met.now) p (glyphs_of self.old) }
+
+        // Where clusters never fall, that is the change of the definitions.
+        ensures rising { result ≡ true → Rising (glyphs_of self.old) → glyphs_of self.new
+            ≡ changed (join ligature) (glyph_at (glyphs_of self.old) p).cluster
+            (further (glyphs_of self.old) p met.now) p (glyphs_of self.old) }
+        ensures open { result ≡ true → open_of self.new ≡ map
+            (told (edits (join ligature) (further (glyphs_of self.old) p met.now) p))
+            (open_of self.old) }
+        ensures unchanged { result ≡ false
+            → (glyphs_of self.new ≡ glyphs_of self.old) × (open_of self.new ≡ open_of self.old) }
         ensures fits { length (glyphs_of self.new) ≤ room_of self.new }
         ensures room { room_of self.new ≡ room_of self.old }
         ensures lender { lender_of self.new ≡ lender_of self.old }
     {
         let len = self.run.len();
         if p >= len || !rise_within(met, len - p - 1) {
-            return;
+            return false;
         }
         let own = self.cluster(p);
         let far = self.far(p + 1, own, met);
         self.run.merge(p, own, far);
         self.run.replace(p, &[ligature]);
         self.remove(p + 1, met);
+        true
     }
 
     // The cluster of the glyph at `i`; 0 where there is none.

@@ -88,22 +88,22 @@ fn components_join(rt: HostRuntime) -> Result<(), Fail> {
     let mut editing = Editing::new(run);
     assert!(rt; editing.open_match(0, &[0, 2, 3]));
     assert!(rt; editing.open_match(1, &[1, 3]));
-    editing.join(1, 20, &[1]);
+    assert!(rt; editing.join(1, 20, &[1]));
     check(&rt, &editing, &[(1, 0), (20, 1), (3, 1), (5, 4), (6, 5)]);
     check_open(&rt, &editing, &[1, 4]);
     assert_eq!(rt; editing.close_match(), 5);
     check_open(&rt, &editing, &[0, 1, 3]);
-    editing.join(0, 30, &[0, 1]);
+    assert!(rt; editing.join(0, 30, &[0, 1]));
     check(&rt, &editing, &[(30, 0), (5, 4), (6, 5)]);
     check_open(&rt, &editing, &[0, 1]);
     assert_eq!(rt; editing.close_match(), 2);
     // What does not rise in the run changes nothing.
-    editing.join(0, 40, &[1, 1]);
-    editing.join(0, 40, &[2]);
-    editing.join(3, 40, &[]);
+    assert!(rt; !editing.join(0, 40, &[1, 1]));
+    assert!(rt; !editing.join(0, 40, &[2]));
+    assert!(rt; !editing.join(3, 40, &[]));
     check(&rt, &editing, &[(30, 0), (5, 4), (6, 5)]);
     // No further component: the glyph alone gives way.
-    editing.join(2, 50, &[]);
+    assert!(rt; editing.join(2, 50, &[]));
     check(&rt, &editing, &[(30, 0), (5, 4), (50, 5)]);
     Ok(())
 }

@@ -29,7 +29,17 @@ pub extern "C" fn mitqorad_shape(
     run: &mut [Glyph],
     marks: &mut [u8],
 ) -> Answer
-    ensures { let call : Call = record { gsub = gsub.now; cmap = cmap.now; gdef = gdef.now; plan = plan.now; limit = limit; text = text.now } in (e : End) × Comes call (length run.old) (length marks.old) e × (result ≡ answer_of e) × (run.new ≡ run_after e run.old) × (marks.new ≡ marks_after e marks.old) }
+    ensures { let call : Call = record {
+      gsub = gsub.now;
+      cmap = cmap.now;
+      gdef = gdef.now;
+      plan = plan.now;
+      limit = limit;
+      text = text.now;
+    } in
+        (e : End) × Comes call (length run.old) (length marks.old) e
+        × (result ≡ answer_of e)
+        × (run.new ≡ run_after e run.old) × (marks.new ≡ marks_after e marks.old) }
 {
     let tables = match Tables::checked(heap, gsub, cmap, gdef) {
         Ok(tables) => tables,

@@ -124,7 +124,7 @@ const BACKWARD: [u16; 21] = [
     1, 0, 0, 0, 10, 1, 4, 8, 0, 1, 8, 1, 14, 0, 1, 14, 1, 5, 1, 1, 2,
 ];
 
-// What the definitions say of nine small texts (`worked_examples` of `model`), from tables in bytes.
+// What the definitions say of nine small texts (`further_examples` of `model`), from tables in bytes.
 #[test]
 fn worked_examples(rt: HostRuntime) -> Result<(), Fail> {
     check(&rt, rt.alloc(), &ligature(0), &[], &[], &[], 0)?;

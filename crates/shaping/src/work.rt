@@ -36,10 +36,7 @@ fn change(editing: &mut Editing<'_>, p: usize, action: &Action<'_>, met: &[usize
 {
     match action {
         Action::Put(glyphs) => editing.put(p, glyphs.as_slice()),
-        Action::Join(ligature) => {
-            editing.join(p, *ligature, met);
-            true
-        }
+        Action::Join(ligature) => editing.join(p, *ligature, met),
         Action::Nest(_) => true,
     }
 }

@@ -16,7 +16,7 @@ returns-clause-took g c =
     let action = action_of c.args.found.now.action in
     let m = match_at gs p met c.args.found.now in
     let taken : c.change.result ≡ true = c.if-not-change.false in
-    let opened = c.open_match.ensures.answer c.requires.inside c.requires.met.1 c.requires.met.0 c.requires.open in
+    let opened = c.open_match.ensures.answer.1 ((c.requires.inside, c.requires.met.1), c.requires.met.0, c.requires.open) in
     let room : nat_le (length (changed action m.own m.others p gs)) (room_of c.args.work.now.editing) ≡ true =
     subst (λ n. nat_le (length (changed action m.own m.others p gs)) n ≡ true) c.open_match.ensures.room
     (subst (λ l. nat_le (length (changed action (glyph_at l p).cluster (mets_at (drop (suc p) l) 0 met) p l)) (room_of c.open_match.new.self) ≡ true) c.open_match.ensures.glyphs (sym c.change.ensures.answer ∙ taken)) in
