@@ -1,5 +1,5 @@
 // Lookups, and what their subtables list.
-ghost use Rattle.std.specs.Prelude.{◌≡◌, ◌+◌, ◌*◌, ◌<◌, ◌≤◌, ◌==◌, drop, IfSome};
+ghost use Rattle.std.specs.Prelude.{◌≡◌, ◌<◌, ◌≤◌, drop, IfSome};
 ghost use Rattle.layout.specs.Bytes.{u16_at};
 ghost use Rattle.gsub.specs.Candidates.{subtable_candidates};
 ghost use Rattle.gsub.specs.Forms.{form_of, own_form, part_is};

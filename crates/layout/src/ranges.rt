@@ -1,5 +1,5 @@
 ghost use Rattle.std.specs.Prelude.{◌≡◌, ◌+◌, ◌*◌, ◌<◌, ◌≤◌, length, IfOk, IfSome, OnOk, slice_index_or, None};
-ghost use Rattle.layout.specs.Bytes.{bytes_of, u16_at};
+ghost use Rattle.layout.specs.Bytes.{bytes_of};
 ghost use Rattle.layout.specs.Faults.{first_in, extent};
 ghost use Rattle.layout.specs.Ranges.{counted_faults, counted_ranges, holding, last_of, ranges_of, entry_faults, field_size, field_count, entry_size, range_at, value_bound, third_faults, order_faults, array_faults};
 ghost use Rattle.layout.specs.Told.{verdict, byte_verdict};
