@@ -1,8 +1,10 @@
 use crate::error::ReadError;
 use crate::list::{numbers_of, plan_of};
 use crate::number::number_of;
+use crate::pairs::pairs;
 use crate::script::script;
 use crate::text::{characters, numbers};
+use font::refusal::Refusal;
 use paragraph::calls::Call;
 use std::test::Fail;
 
@@ -48,6 +50,23 @@ fn lines_of_files(rt: HostRuntime) -> Result<(), Fail> {
         numbers(rt.alloc(), b"\xE9").err(),
         Some(ReadError::NotUtf8)
     );
+    Ok(())
+}
+
+#[test]
+fn stand_in_pairs(rt: HostRuntime) -> Result<(), Fail> {
+    let mut bytes = [0; 132];
+    for (i, place) in bytes.iter_mut().enumerate() {
+        *place = b"1\t2\n"[i % 4];
+    }
+    let table = pairs(&bytes[..128])?;
+    let read = table.pairs();
+    assert_eq!(rt; read.len(), 32);
+    assert_eq!(rt; (read[31].character, read[31].stand_in), (1, 2));
+    let over = ReadError::Refused(Refusal::TooManyPairs);
+    assert_eq!(rt; pairs(&bytes).err(), Some(over));
+    bytes[128] = b'x';
+    assert_eq!(rt; pairs(&bytes).err(), Some(ReadError::Line(33)));
     Ok(())
 }
 

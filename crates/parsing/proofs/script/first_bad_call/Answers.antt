@@ -4,17 +4,16 @@ use Rattle.std.specs.Str.Lines.{lines}
 use Rattle.std.proofs.lemmas.Iterator.Consumers.{YieldsList-end, YieldsList-so_far, YieldsList-turn, YieldsList-from_enumerate}
 use Rattle.std.proofs.lemmas.Iterator.Splits.{YieldsList-from_lines}
 use Rattle.std.proofs.lemmas.List.{map-append}
-use Rattle.paragraph.specs.declared.calls.Call.{Call}
-use Rattle.parsing.specs.Script.{IsCall, Says, words_in}
+use Rattle.parsing.specs.Script.{IsCall, Says, ScriptCall, words_in}
 use Rattle.parsing.proofs.Numbered.{enumerated, one_more}
 use Rattle.parsing.proofs.Places.{first_bad}
 use Rattle.parsing.proofs.script.first_bad_call.Goals as goal
 
-none_says_no_call : (line : List ℕ) (r : Option Call) → (r ≡ None → (call : Call) → ¬ (Says (words_in line) call)) → (none : Bool) → is_some r ≡ not none → none ≡ true → ¬ (IsCall line)
+none_says_no_call : (line : List ℕ) (r : Option ScriptCall) → (r ≡ None → (call : ScriptCall) → ¬ (Says (words_in line) call)) → (none : Bool) → is_some r ≡ not none → none ≡ true → ¬ (IsCall line)
 none_says_no_call line None said none test e = λ is. said refl is.0 is.1
 none_says_no_call line (Some call) said none test e = cc
 
-some_is_call : (line : List ℕ) (r : Option Call) → IfSome r (λ call. Says (words_in line) call) → (none : Bool) → is_some r ≡ not none → none ≡ false → IsCall line
+some_is_call : (line : List ℕ) (r : Option ScriptCall) → IfSome r (λ call. Says (words_in line) call) → (none : Bool) → is_some r ≡ not none → none ≡ false → IsCall line
 some_is_call line None said none test e = cc
 some_is_call line (Some call) said none test e = (call, said)
 
