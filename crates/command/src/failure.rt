@@ -1,7 +1,6 @@
 use crate::meaning::{fault_meaning, refusal_meaning, source_meaning};
 use asking::usage::UsageError;
 use font::refusal::Refusal as SourceRefusal;
-use gsub::check::CheckError;
 use layout::fault::TableFault;
 use paragraph::refusal::Refusal;
 use pick::refusal::Refusal as PickRefusal;
@@ -60,15 +59,6 @@ impl From<PickRefusal> for Failure {
 impl From<TableFault> for Failure {
     fn from(fault: TableFault) -> Failure {
         Failure::Fault(fault)
-    }
-}
-
-impl From<CheckError> for Failure {
-    fn from(error: CheckError) -> Failure {
-        match error {
-            CheckError::Fault(fault) => Failure::Fault(fault),
-            CheckError::Memory => Failure::Memory,
-        }
     }
 }
 

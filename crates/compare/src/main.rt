@@ -8,7 +8,6 @@
 #![tactic(auto)]
 
 use font::source::FontSource;
-use gsub::check::CheckError;
 use gsub::table::Gsub;
 use label_font::table::LabelFont;
 use model::{Entry, Glyph};
@@ -100,8 +99,7 @@ fn shaped<S: FontSource>(
 ) -> Result<String, AllocError> {
     let table = match Gsub::checked(heap, table) {
         Ok(table) => table,
-        Err(CheckError::Fault(fault)) => return format!(in heap; "{fault}"),
-        Err(CheckError::Memory) => return String::from_str(heap, "no memory"),
+        Err(fault) => return format!(in heap; "{fault}"),
     };
     let inputs = Inputs {
         source,

@@ -8,7 +8,7 @@ use Rattle.std.proofs.lemmas.Nat.{and_or_apart, pow_apart}
 use Rattle.layout.specs.Faults.{first_in}
 use Rattle.gsub.specs.declared.seen.Kind.{Kind}
 use Rattle.gsub.specs.declared.seen.Kind.TheVariants.{Coverage, Classes, LigatureSet, RuleSet, ChainRuleSet, Single, Multiple, Alternate, Ligature, Context, Chain, Reverse, Lookup}
-use Rattle.gsub.specs.Seen.{faults_of, index, remembered, Sound}
+use Rattle.gsub.specs.Seen.{NothingSeen, faults_of, index, remembered, Sound}
 
 pub sound-at : (t : List ℕ) (n : ℕ) (seen : List ℕ) (kind : Kind) (s : ℕ) → Sound t n seen → remembered seen kind s ≡ true → first_in (faults_of kind t n s) ≡ None
 unfolding Sound
@@ -65,15 +65,18 @@ module _ (t : List ℕ) (n : ℕ) (seen : List ℕ) (kind : Kind) (s : ℕ) (ins
   sound_more = λ other q h. at-by other q (eqb q s) refl h
 
 -- at first nothing is remembered
-none-by : (m s : ℕ) (b : Bool) → ltb s m ≡ b → ◌≡◌ {A = ℕ} (get_or (replicate m 0) s 0) 0
-none-by m s true e = get_or-replicate m s 0 0 (grind (arith, nat_tests))
-none-by m s false e = let n : length (replicate {A = ℕ} m 0) ≡ m = length-replicate m 0 in get_or_past (replicate m 0) s 0 (grind (arith, nat_tests))
-
-pub sound_none : (t : List ℕ) (n m : ℕ) → Sound t n (replicate m 0)
+pub sound_none : (t : List ℕ) (n : ℕ) (seen : List ℕ) → NothingSeen seen → Sound t n seen
 unfolding Sound
-sound_none t n m = λ kind s h.
-    let zero = none-by m s (ltb s m) refl in
+sound_none t n seen none = λ kind s h.
     let bits = and_zero_l (2 ^ index kind) in
-    let e : not (eqb (bit_and (get_or (replicate m 0) s 0) (2 ^ index kind)) 0) ≡ false = ap (λ u. not (eqb (bit_and u (2 ^ index kind)) 0)) zero ∙ ap (λ u. not (eqb u 0)) bits in
+    let e : not (eqb (bit_and (get_or seen s 0) (2 ^ index kind)) 0) ≡ false = ap (λ u. not (eqb (bit_and u (2 ^ index kind)) 0)) (none s) ∙ ap (λ u. not (eqb u 0)) bits in
     let z : ◌≡◌ {A = Bool} false true = sym e ∙ h in
     absurd cc
+
+-- zeros, and nothing past them
+zero-by : (m s : ℕ) (b : Bool) → ltb s m ≡ b → ◌≡◌ {A = ℕ} (get_or (replicate m 0) s 0) 0
+zero-by m s true e = get_or-replicate m s 0 0 (grind (arith, nat_tests))
+zero-by m s false e = let n : length (replicate {A = ℕ} m 0) ≡ m = length-replicate m 0 in get_or_past (replicate m 0) s 0 (grind (arith, nat_tests))
+
+pub zeros : (m : ℕ) → NothingSeen (replicate m 0)
+zeros m = λ s. zero-by m s (ltb s m) refl

@@ -6,5 +6,4 @@ pub mod Tables
 pub mod Candidates
 pub mod Meaning
 pub mod Seen
-pub mod Told
 pub mod Examples

@@ -54,6 +54,10 @@ index Lookup = 12
 abbrev pub remembered : (seen : List ℕ) → Kind → (s : ℕ) → Bool
 remembered seen kind s = not (bit_and (slice_index seen s) (2 ^ index kind) == 0)
 
+-- Nothing is remembered.
+abbrev pub NothingSeen : (seen : List ℕ) → Type 0
+NothingSeen seen = (s : ℕ) → slice_index seen s ≡ 0
+
 -- Nothing is remembered that has a fault.
 unfoldable pub Sound : (table : List ℕ) → (lookups : ℕ) → (seen : List ℕ) → Type 0
 Sound t n seen = (kind : Kind) (s : ℕ) → remembered seen kind s ≡ true → first_in (faults_of kind t n s) ≡ None

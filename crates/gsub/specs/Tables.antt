@@ -1,5 +1,5 @@
 -- The faults of a GSUB table: its length, the header, the lookup list, and each lookup with its subtables, in the order of a walk.
-use Rattle.std.specs.Prelude.{ℕ, ◌+◌, Bool, false, cond, not, ◌&&◌, ◌||◌, List, ◌++◌, Some, None, Option, ◌==◌, bit_and, nat_le}
+use Rattle.std.specs.Prelude.{ℕ, ◌+◌, Bool, false, cond, not, ◌&&◌, ◌||◌, List, [], ◌∷◌, ◌++◌, Some, None, Option, ◌==◌, bit_and, nat_le}
 use Rattle.layout.specs.declared.fault.Place.{Place}
 use Rattle.layout.specs.declared.fault.Report.{Report}
 use Rattle.layout.specs.declared.fault.TableName.TheVariants.{Gsub}
@@ -86,3 +86,7 @@ walk_faults t =
 
 abbrev pub gsub_faults : (table : List ℕ) → List Report
 gsub_faults t = too_long Gsub t ++ walk_faults t
+
+-- A table with no lookups: version 1.0, no scripts, no features, and at byte 10 an empty lookup list.
+abbrev pub empty_table : List ℕ
+empty_table = 0 ∷ 1 ∷ 0 ∷ 0 ∷ 0 ∷ 0 ∷ 0 ∷ 0 ∷ 0 ∷ 10 ∷ 0 ∷ 0 ∷ []

@@ -1,75 +1,45 @@
-ghost use Rattle.std.specs.Prelude.{◌≡◌, IfOk};
+ghost use Rattle.std.specs.Prelude.{◌≡◌, is_ok, if◌then◌else◌, IfOk};
+ghost use Rattle.layout.specs.Faults.{first_in};
+ghost use Rattle.layout.specs.Told.{table_verdict};
 ghost use Rattle.gsub.specs.Meaning.{all_subtables, subtable_count};
-ghost use Rattle.gsub.specs.Tables.{gsub_faults, lookup_count};
-ghost use Rattle.gsub.specs.Told.{Right, kept, of_fault, of_memory, of_placed, told};
+ghost use Rattle.gsub.specs.Tables.{gsub_faults, lookup_count, empty_table};
 
 use crate::lookups::{check_header, lookup_count};
 use crate::table::Gsub;
-use crate::walk::{Start, Walk};
+use crate::walk::{Start, Walk, room_for};
 use layout::bytes::Field;
-use layout::fault::{Place, PlacedFault, TableFault, TableName, check_length};
+use layout::fault::{Place, TableFault, TableName, check_length};
 use layout::structure::Structure;
-use std::alloc::{AllocError, Global};
-
-// Why a table was not accepted.
-#[derive(Clone, Copy)]
-pub enum CheckError {
-    Fault(TableFault),
-    // No memory to remember the walk in; nothing is known of the lookups.
-    Memory,
-}
-
-impl From<TableFault> for CheckError {
-    ghost from_gives = { λ f r. r ≡ of_fault f };
-
-    fn from(fault: TableFault) -> CheckError {
-        CheckError::Fault(fault)
-    }
-}
-
-impl From<AllocError> for CheckError {
-    ghost from_gives = { λ e r. r ≡ of_memory };
-
-    fn from(_error: AllocError) -> CheckError {
-        CheckError::Memory
-    }
-}
-
-impl From<PlacedFault> for CheckError {
-    ghost from_gives = { λ p r. r ≡ of_placed p };
-
-    fn from(fault: PlacedFault) -> CheckError {
-        CheckError::Fault(TableFault::Structure(fault))
-    }
-}
+use std::alloc::Global;
 
 impl<'a> Gsub<'a> {
     // A table with no lookups.
     pub fn new() -> Gsub<'a>
-        ensures { lookup_count result.table.now ≡ 0 }
+        ensures { result.table.now ≡ empty_table }
     {
         Gsub {
             table: &[0, 1, 0, 0, 0, 0, 0, 0, 0, 10, 0, 0],
         }
     }
 
-    // A table, if it has no fault; else its first fault is answered. The memory for what is remembered takes 16 bits for each byte.
-    pub fn checked(heap: Global, table: &'a [u8]) -> Result<Gsub<'a>, CheckError>
-        ensures answer { Right (gsub_faults table.now) (told result) }
+    // A table, if it has no fault; else its first fault is answered. Memory only makes the walk shorter: it asks for 16 bits for each byte, and goes on with what it gets.
+    pub fn checked(heap: Global, table: &'a [u8]) -> Result<Gsub<'a>, TableFault>
+        ensures answer { table_verdict result ≡ first_in (gsub_faults table.now) }
         ensures table { IfOk result (λ gsub. gsub.table.now ≡ table.now) }
     {
         check_length(TableName::Gsub, table)?;
         let place = Place::of(TableName::Gsub);
         let start = usize::from(place.hold(check_header(table))?);
         let lookups = place.hold(lookup_count(Structure { table, start }))?;
-        Walk::new(heap, table, lookups)?.check_lookups(Start { byte: start })?;
+        let mut walk = Walk::new(room_for(heap, table.len()), table, lookups);
+        walk.check_lookups(Start { byte: start })?;
         Ok(Gsub { table })
     }
 
     // Takes a table, if it has no fault; else its first fault is answered, and nothing changes.
-    pub fn read(&mut self, heap: Global, table: &'a [u8]) -> Result<(), CheckError>
-        ensures answer { Right (gsub_faults table.now) (told result) }
-        ensures table { self.new.table.now ≡ kept (told result) table.now self.old.table.now }
+    pub fn read(&mut self, heap: Global, table: &'a [u8]) -> Result<(), TableFault>
+        ensures answer { table_verdict result ≡ first_in (gsub_faults table.now) }
+        ensures table { self.new.table.now ≡ (if is_ok result then table.now else self.old.table.now) }
     {
         *self = Gsub::checked(heap, table)?;
         Ok(())

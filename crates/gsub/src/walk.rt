@@ -2,12 +2,12 @@ ghost use Rattle.std.specs.Prelude.{◌≡◌, ◌≢◌, ◌==◌, not, true, �
 ghost use Rattle.layout.specs.Bytes.{u16_at};
 ghost use Rattle.layout.specs.Faults.{first_in, unless};
 ghost use Rattle.layout.specs.Told.{verdict};
-ghost use Rattle.gsub.specs.Seen.{faults_of};
+ghost use Rattle.gsub.specs.Seen.{NothingSeen, faults_of};
 
 use crate::seen::Kind;
 use layout::fault::{Rule, StructureFault};
 use layout::structure::Structure;
-use std::alloc::{AllocError, Global};
+use std::alloc::Global;
 use std::marker::Model;
 
 // Where a structure may start: a byte that an offset can lead to. Its sums with sizes and with further offsets fit.
@@ -17,12 +17,26 @@ pub(crate) struct Start {
     ghost near: { byte < 2 ^ 63 + 2 ^ 32 },
 }
 
+// Room for what is remembered of a table of so many bytes: for all of it, else for half of it, and so on, at last none.
+pub(crate) fn room_for(heap: Global, bytes: usize) -> Vec<u16>
+    ensures { NothingSeen result.items }
+{
+    let mut room = bytes;
+    while room > 0 {
+        if let Ok(seen) = vec![in heap; 0u16; room] {
+            return seen;
+        }
+        room /= 2;
+    }
+    Vec::new(heap)
+}
+
 // A walk over a table with so many lookups. It remembers what it found without faults, which changes no answer: contracts see the table and the lookups alone. What takes it by `&mut` says that they stay (`same`); a type cannot say that of a call.
 #[derive(Drop)]
 pub(crate) struct Walk<'a> {
     table: &'a [u8],
     lookups: u16,
-    // For each byte of the table the kinds of structures that start there, a bit each. A set of the library would be no shorter, and take many times the memory where a table leads to every byte.
+    // For each byte, up to its length, the kinds of structures that start there, a bit each. A set of the library would be no shorter, and take many times the memory where a table leads to every byte.
     seen: Vec<u16>,
     // How many structures were walked to their end, so that a test can show that one is not walked twice.
     walked: u64,
@@ -41,16 +55,17 @@ impl<'a> Model for Walk<'a> {
 }
 
 impl<'a> Walk<'a> {
-    // At first nothing is remembered.
-    pub(crate) fn new(heap: Global, table: &'a [u8], lookups: u16) -> Result<Walk<'a>, AllocError>
-        ensures { IfOk result (λ walk. (walk.table ≡ table.now) × (walk.lookups ≡ lookups)) }
+    // At first nothing is remembered. What starts past the room for it never is.
+    pub(crate) fn new(seen: Vec<u16>, table: &'a [u8], lookups: u16) -> Walk<'a>
+        requires { NothingSeen seen.items }
+        ensures { (result.table ≡ table.now) × (result.lookups ≡ lookups) }
     {
-        Ok(Walk {
+        Walk {
             table,
             lookups,
-            seen: vec![in heap; 0u16; table.len()]?,
+            seen,
             walked: 0,
-        })
+        }
     }
 
     pub(crate) fn structure(&self, start: Start) -> Structure<'a>
@@ -145,10 +160,27 @@ mod tests {
         push(&mut table, &[1, 1, 7])?;
         push_list(&mut table, 32_766, 65_534)?;
         push(&mut table, &[1, 0])?;
-        let mut walk = Walk::new(rt.alloc(), table.as_slice(), 32_766)?;
+        let seen = room_for(rt.alloc(), table.len());
+        let mut walk = Walk::new(seen, table.as_slice(), 32_766);
         assert!(rt; walk.check_lookups(Start { byte: 10 }).is_ok());
         // The lookup, its subtable, the coverage and the rule set.
         assert_eq!(rt; walk.walked, 4);
+        Ok(())
+    }
+
+    // Three lookups that are one, of type 1: with no room the same answer, and each is walked whenever an offset leads to it.
+    #[test]
+    fn without_room_the_same_is_answered(rt: HostRuntime) -> Result<(), Fail> {
+        let mut table = Vec::new(rt.alloc());
+        push(&mut table, &[1, 0, 0, 0, 10])?;
+        push_list(&mut table, 3, 8)?;
+        push(&mut table, &[1, 0])?;
+        push_list(&mut table, 1, 8)?;
+        push(&mut table, &[1, 6, 1, 1, 1, 5])?;
+        let mut walk = Walk::new(Vec::new(rt.alloc()), table.as_slice(), 3);
+        assert!(rt; walk.check_lookups(Start { byte: 10 }).is_ok());
+        // The lookup, its subtable and the coverage, three times.
+        assert_eq!(rt; walk.walked, 9);
         Ok(())
     }
 }

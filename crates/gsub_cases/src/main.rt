@@ -4,7 +4,6 @@
 // What it shares with the other programs of cases stays in each: as a crate it would be public functions about how a test is written.
 #![tactic(auto)]
 
-use gsub::check::CheckError;
 use gsub::table::Gsub;
 use std::alloc::{AllocError, Global};
 use std::io;
@@ -37,8 +36,7 @@ fn print_answer(rt: &HostRuntime, table: &[u8]) -> io::Result<()> {
             let (lookups, subtables) = (gsub.lookup_count(), gsub.subtables());
             println!(rt; ": accepted, {lookups} lookups, {subtables} subtables")
         }
-        Err(CheckError::Fault(fault)) => println!(rt; ": {fault}"),
-        Err(CheckError::Memory) => println!(rt; ": no memory"),
+        Err(fault) => println!(rt; ": {fault}"),
     }
 }
 

@@ -1,3 +1,4 @@
+pub mod Examples
 pub mod Arrays
 pub mod Firsts
 pub mod Order

@@ -8,3 +8,4 @@ pub mod coverage;
 pub mod fault;
 pub mod ranges;
 pub mod structure;
+pub mod worked;

@@ -1,16 +1,14 @@
 -- The examples, by computation.
 use Rattle.std.proofs.Common.{refl, inl, inr, arith}
 use Rattle.model.specs.Shaping.{ends, stops, misses, hits}
-use Rattle.model.specs.Examples.{WorkedExamples, FurtherExamples}
+use Rattle.model.specs.Examples.{FurtherExamples}
 
-pub worked : WorkedExamples
-worked =
+pub further : FurtherExamples
+further =
     record {
       empty = (_, omega arith, inl (_, ends refl refl, refl), refl);
       ligates = (_, omega arith, inl (_, hits refl refl (misses refl refl (ends refl refl)), refl), refl);
       passes_over_the_mark = (_, omega arith, inl (_, hits refl refl (ends refl refl), refl), refl);
-      line_start = refl;
-      line_count = refl;
       line_alone = (_, omega arith, inl (_, hits refl refl (ends refl refl), refl), refl);
       tied_line_alone = (_, omega arith, inl (_, misses refl refl (ends refl refl), refl), refl);
       record_runs = (_, omega arith, inl (_, misses refl refl (hits refl refl (ends refl refl)), refl), refl);
@@ -20,11 +18,6 @@ worked =
       growing = (_, omega arith, inl (_, hits refl refl (ends refl refl), refl), refl);
       room_spent = inr (omega arith, inr (_, stops refl refl refl, refl));
       goes_backward = (_, omega arith, inl (_, refl, refl), refl);
-    }
-
-pub further : FurtherExamples
-further =
-    record {
       lookahead_ties = (_, omega arith, inl (_, hits refl refl (hits refl refl (misses refl refl (ends refl refl))), refl), refl);
       nearest_first = (_, omega arith, inl (_, misses refl refl (misses refl refl (hits refl refl (ends refl refl))), refl), refl);
       not_text_order = (_, omega arith, inl (_, misses refl refl (misses refl refl (misses refl refl (ends refl refl))), refl), refl);
@@ -61,7 +54,26 @@ further =
       alternate_of_the_entry = (_, omega arith, inl (_, hits refl refl (ends refl refl), refl), refl);
       flag2 = refl;
       flag4 = refl;
+      other_bits = refl;
       flag8 = refl;
       flag16 = refl;
-      high_byte = refl;
+      another_set = refl;
+      missing_set = refl;
+      class1 = refl;
+      class2 = refl;
+      class3 = refl;
+      class128 = refl;
+      most = refl;
+      least = refl;
+      apart = refl;
+      text_too_long = refl;
+      run_too_long = refl;
+      limit_too_high = refl;
+      marks_too_short = refl;
+      plan_too_long = refl;
+      lookup_repeated = refl;
+      lookups_fall = refl;
+      lookup_missing = refl;
+      alternate_0 = refl;
+      six_before_five = refl;
     }

@@ -1,19 +1,24 @@
 -- Worked examples. Glyphs: f = 1, i = 2, a mark m = 3, the ligature fi = 4, x = 5.
-use Rattle.std.specs.Prelude.{◌≡◌, ℕ, true, false, cond, ◌&&◌, List, [], ◌∷◌, ◌++◌, map, replicate, ◌==◌, nat_eq, nat_lt, slice_index_or}
-use Rattle.std.specs.List.{prefix_len}
+use Rattle.std.specs.Prelude.{◌≡◌, ℕ, true, false, cond, ◌&&◌, ◌||◌, List, [], ◌∷◌, ◌++◌, map, filter, replicate, ◌==◌, nat_eq, slice_index_or, None, Some}
 use Rattle.font.specs.Font.{Font}
+use Rattle.model.specs.declared.Entry.{Entry}
 use Rattle.model.specs.declared.Glyph.{Glyph}
+use Rattle.model.specs.Edits.{up_from}
+use Rattle.model.specs.Limits.{refused_first}
 use Rattle.model.specs.Lookups.{LookupRecord, Action, put, join, nest, Candidate, Lookup, passes_over}
 use Rattle.model.specs.Shaping.{Inputs, refused, shaped, Shapes}
 
--- The font: a character's glyph is its number, but that of character 20 is x. Bases are 11, ligatures 12, marks 3, 13 (mark class 1, in mark set 6) and 14 (mark class 2, in no set).
+-- The font: a character's glyph is its number, but that of character 20 is x. Bases are 11, ligatures 12, components 15.
+-- Marks are 3 (mark class 0), 13 (1, and in mark set 6), 14 (2, and in set 7), 16 (3) and 17 (258).
 abbrev pub font : Font
 font =
     record {
       glyph = λ c. cond (c == 20) 5 c;
-      class = λ g. cond (g == 11) 1 (cond (g == 12) 2 (cond (g == 3) 3 (cond (g == 13) 3 (cond (g == 14) 3 0))));
-      mark_class = λ g. cond (g == 13) 1 (cond (g == 14) 2 0);
-      in_mark_set = λ k g. (k == 6) && (g == 13);
+      class = λ g.
+          cond (g == 11) 1 (cond (g == 12) 2 (cond (g == 15) 4
+          (cond (g == 3 || g == 13 || g == 14 || g == 16 || g == 17) 3 0)));
+      mark_class = λ g. cond (g == 13) 1 (cond (g == 14) 2 (cond (g == 16) 3 (cond (g == 17) 258 0)));
+      in_mark_set = λ k g. (k == 6 && g == 13) || (k == 7 && g == 14);
     }
 
 -- A lookup with a flag, mark set 6 and candidates for one glyph.
@@ -66,17 +71,36 @@ except_after_f = forward 0 2 (rule (1 ∷ []) [] [] (nest []) ∷ rule [] [] [] 
 abbrev pub doubled : List Lookup
 doubled = forward 0 5 (rule [] [] [] (put (5 ∷ 5 ∷ [])) ∷ []) ∷ []
 
-pub record WorkedExamples : Type 0 where
+-- The glyphs 8 and 9 in place of i and of x, as lookups that records name.
+abbrev pub i→8 : Lookup
+i→8 = forward 0 2 (rule [] [] [] (put (8 ∷ [])) ∷ [])
+
+abbrev pub x→9 : Lookup
+x→9 = forward 0 5 (rule [] [] [] (put (9 ∷ [])) ∷ [])
+
+-- Input f i x with records, then lookups 1 to 3.
+abbrev pub over_fix : List LookupRecord → List Lookup → List Lookup
+over_fix rs ks = forward 0 1 (rule [] (2 ∷ 5 ∷ []) [] (nest rs) ∷ []) ∷ ks
+
+-- Which of these glyphs a lookup passes over, by its flag and its mark set.
+abbrev pub passed_over : (flag mark_set : ℕ) → List ℕ
+passed_over flag set =
+    filter (passes_over font (record { flag = flag; mark_set = set; backward = false; candidates = λ alt g. [] }))
+    (5 ∷ 11 ∷ 12 ∷ 15 ∷ 3 ∷ 13 ∷ 14 ∷ 16 ∷ 17 ∷ [])
+
+-- Plan entries for these lookup numbers, with one alternate value.
+abbrev pub entries : (alternate : ℕ) → (lookups : List ℕ) → List Entry
+entries alternate = map (λ lookup. record { lookup = lookup; alternate = alternate })
+
+-- Each of these notices one clause of the definitions.
+pub record FurtherExamples : Type 0 where
   -- an empty text: empty run, no hits
   pub empty : Gives (ligature 0) [] [] [] 0
   -- the ligature on f i x
   pub ligates : Gives (ligature 0) (1 ∷ 2 ∷ 5 ∷ []) (4 ∶ 0 ∷ 5 ∶ 2 ∷ []) (0 ∷ 2 ∷ 0 ∷ []) 1
   -- under flag 8 on f m i: the mark stays behind the ligature, in its cluster
   pub passes_over_the_mark : Gives (ligature 8) (1 ∷ 3 ∷ 2 ∷ []) (4 ∶ 0 ∷ 3 ∶ 0 ∷ []) (0 ∷ 2 ∷ 2 ∷ []) 1
-  -- of f i x, the line from 0 to 2 is record 0, count 1: no record lies before it, and one follows before cluster 2
-  pub line_start : prefix_len (λ g. nat_lt g.cluster 0) (4 ∶ 0 ∷ 5 ∶ 2 ∷ []) ≡ 0
-  pub line_count : prefix_len (λ g. nat_lt g.cluster 2) (4 ∶ 0 ∷ 5 ∶ 2 ∷ []) ≡ 1
-  -- that line shaped alone, and the line from 0 to 1, whose end is tied
+  -- the line from 0 to 2 of that text shaped alone, and the line from 0 to 1, whose end is tied
   pub line_alone : Gives (ligature 0) (1 ∷ 2 ∷ []) (4 ∶ 0 ∷ []) (0 ∷ 2 ∷ []) 1
   pub tied_line_alone : Gives (ligature 0) (1 ∷ []) (1 ∶ 0 ∷ []) (0 ∷ []) 0
   -- backtrack and a record on f i: the match is a hit, and so is the record's; at limit 1, refusal 7
@@ -91,20 +115,6 @@ pub record WorkedExamples : Type 0 where
   pub room_spent : Shapes (inputs doubled 10 1) (5 ∷ []) (refused 8)
   -- backward: i before a lookahead i becomes x, on i i i
   pub goes_backward : Gives (backward 2 (rule [] [] (2 ∷ []) (put (5 ∷ [])) ∷ []) ∷ []) (2 ∷ 2 ∷ 2 ∷ []) (2 ∶ 0 ∷ 5 ∶ 1 ∷ 2 ∶ 2 ∷ []) (0 ∷ 0 ∷ 1 ∷ []) 1
-
--- The glyphs 8 and 9 in place of i and of x, as lookups that records name.
-abbrev pub i→8 : Lookup
-i→8 = forward 0 2 (rule [] [] [] (put (8 ∷ [])) ∷ [])
-
-abbrev pub x→9 : Lookup
-x→9 = forward 0 5 (rule [] [] [] (put (9 ∷ [])) ∷ [])
-
--- Input f i x with records, then lookups 1 to 3.
-abbrev pub over_fix : List LookupRecord → List Lookup → List Lookup
-over_fix rs ks = forward 0 1 (rule [] (2 ∷ 5 ∷ []) [] (nest rs) ∷ []) ∷ ks
-
--- Each of these notices one clause of the definitions.
-pub record FurtherExamples : Type 0 where
   -- MATCHING
   -- lookahead without a record ties too, and the pass goes on at the match's end, which leaves the lookahead out
   pub lookahead_ties : Gives (forward 0 2 (rule [] [] (2 ∷ []) (nest []) ∷ []) ∷ []) (2 ∷ 2 ∷ 2 ∷ []) (2 ∶ 0 ∷ 2 ∶ 1 ∷ 2 ∶ 2 ∷ []) (0 ∷ 1 ∷ 1 ∷ []) 2
@@ -175,12 +185,34 @@ pub record FurtherExamples : Type 0 where
   pub fonts_glyph : Gives (x→9 ∷ []) (20 ∷ []) (9 ∶ 0 ∷ []) (0 ∷ []) 1
   -- a record's lookup has the plan entry's alternate value
   pub alternate_of_the_entry : Shapes (record { font = font; table = λ n. slice_index_or (forward 0 2 (rule [] [] [] (nest (0 runs 1 ∷ [])) ∷ []) ∷ []) n (record { flag = 0; mark_set = 0; backward = false; candidates = λ alt g. rule [] [] [] (put (alt ∷ [])) ∷ [] }); plan = record { lookup = 0; alternate = 7 } ∷ []; limit = 10; room = 10 }) (2 ∷ []) (shaped (record { run = 7 ∶ 0 ∷ []; marks = 0 ∷ []; hits = 2 }))
-  -- PASSING OVER, for base 11, ligature 12 and marks 13 and 14 of mark classes 1 and 2
-  pub flag2 : map (passes_over font (forward 2 0 [])) (5 ∷ 11 ∷ 12 ∷ 13 ∷ 14 ∷ []) ≡ false ∷ true ∷ false ∷ false ∷ false ∷ []
-  pub flag4 : map (passes_over font (forward 4 0 [])) (5 ∷ 11 ∷ 12 ∷ 13 ∷ 14 ∷ []) ≡ false ∷ false ∷ true ∷ false ∷ false ∷ []
+  -- PASSING OVER: the bits 2 and 4 for bases and ligatures alone, and neither for components
+  pub flag2 : passed_over 0x0002 6 ≡ 11 ∷ []
+  pub flag4 : passed_over 0x0004 6 ≡ 12 ∷ []
+  -- the other low bits pass over nothing
+  pub other_bits : passed_over 0x00E1 6 ≡ []
   -- flag 8 passes over all marks, whatever the mark set or the high byte
-  pub flag8 : map (passes_over font (forward 280 0 [])) (5 ∷ 11 ∷ 12 ∷ 13 ∷ 14 ∷ []) ≡ false ∷ false ∷ false ∷ true ∷ true ∷ []
-  -- flag 0x10 passes over the marks outside the set, whatever the high byte (here 2)
-  pub flag16 : map (passes_over font (forward 528 0 [])) (5 ∷ 11 ∷ 12 ∷ 13 ∷ 14 ∷ []) ≡ false ∷ false ∷ false ∷ false ∷ true ∷ []
-  -- the high byte alone passes over the marks of another mark class
-  pub high_byte : map (passes_over font (forward 512 0 [])) (5 ∷ 11 ∷ 12 ∷ 13 ∷ 14 ∷ []) ≡ false ∷ false ∷ false ∷ true ∷ false ∷ []
+  pub flag8 : passed_over 0x0118 6 ≡ 3 ∷ 13 ∷ 14 ∷ 16 ∷ 17 ∷ []
+  -- flag 0x10 passes over the marks outside the lookup's set, whatever the high byte
+  pub flag16 : passed_over 0x0210 6 ≡ 3 ∷ 14 ∷ 16 ∷ 17 ∷ []
+  pub another_set : passed_over 0x0010 7 ≡ 3 ∷ 13 ∷ 16 ∷ 17 ∷ []
+  pub missing_set : passed_over 0x0010 8 ≡ 3 ∷ 13 ∷ 14 ∷ 16 ∷ 17 ∷ []
+  -- the high byte alone passes over the marks of another mark class, which has 16 bits
+  pub class1 : passed_over 0x0100 6 ≡ 3 ∷ 14 ∷ 16 ∷ 17 ∷ []
+  pub class2 : passed_over 0x0200 6 ≡ 3 ∷ 13 ∷ 16 ∷ 17 ∷ []
+  pub class3 : passed_over 0x0300 6 ≡ 3 ∷ 13 ∷ 14 ∷ 17 ∷ []
+  pub class128 : passed_over 0x8000 6 ≡ 3 ∷ 13 ∷ 14 ∷ 16 ∷ 17 ∷ []
+  -- SIZES, AND THEN THE PLAN: as much as may be, and nothing at all
+  pub most : refused_first 65535 65535 65535 1000000 100 (entries 65535 (up_from 36 64)) ≡ None
+  pub least : refused_first 0 0 0 0 0 [] ≡ None
+  -- neither does a run have to hold the text, nor a text to fill its marks
+  pub apart : refused_first 7 0 9 0 1 (entries 1 (0 ∷ [])) ≡ None
+  pub text_too_long : refused_first 65536 65535 65536 1000000 100 [] ≡ Some 6
+  pub run_too_long : refused_first 65535 65536 65535 1000000 100 [] ≡ Some 6
+  pub limit_too_high : refused_first 65535 65535 65535 1000001 100 [] ≡ Some 6
+  pub marks_too_short : refused_first 7 9 6 10 100 [] ≡ Some 6
+  pub plan_too_long : refused_first 7 9 7 10 100 (entries 1 (up_from 0 65)) ≡ Some 5
+  pub lookup_repeated : refused_first 7 9 7 10 100 (entries 1 (3 ∷ 3 ∷ [])) ≡ Some 5
+  pub lookups_fall : refused_first 7 9 7 10 100 (entries 1 (3 ∷ 2 ∷ [])) ≡ Some 5
+  pub lookup_missing : refused_first 7 9 7 10 100 (entries 1 (3 ∷ 100 ∷ [])) ≡ Some 5
+  pub alternate_0 : refused_first 7 9 7 10 100 (entries 1 (3 ∷ []) ++ entries 0 (4 ∷ [])) ≡ Some 5
+  pub six_before_five : refused_first 7 9 6 10 100 (entries 0 (3 ∷ [])) ≡ Some 6

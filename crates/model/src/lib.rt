@@ -1,7 +1,7 @@
 // The definitions of shaping, and the laws about them.
 #![tactic(auto)]
 
-ghost use Rattle.model.specs.Examples.{WorkedExamples, FurtherExamples};
+ghost use Rattle.model.specs.Examples.{FurtherExamples};
 ghost use Rattle.model.specs.Laws.{AtMostOneOutcome, AlwaysAnOutcome, ClustersRise, TiesStay, LimitsHold, RefusalsAreTwo, CutInTwo, CutInPieces, LineAlone, SumsOfPieces};
 
 use font::source::HasGlyph;
@@ -80,12 +80,7 @@ pub fn sums_of_pieces()
     ensures { SumsOfPieces }
 {}
 
-// What the definitions say of nine small texts.
-pub fn worked_examples()
-    ensures { WorkedExamples }
-{}
-
-// Further texts, each of which notices a clause of the definitions.
+// What the definitions say of small texts, of glyphs, and of sizes and plans; each notices a clause of them.
 pub fn further_examples()
     ensures { FurtherExamples }
 {}

@@ -1,8 +1,6 @@
 -- What a call from C asks, and what it answers.
 use Rattle.std.specs.Prelude.{replicate, ◌≡◌, ◌⊎◌, ℕ, ⊤, List, length, None, Some, Option, Ok, Err, Result}
 use Rattle.font.specs.Font.{Font}
-use Rattle.gsub.specs.declared.check.CheckError.{CheckError}
-use Rattle.gsub.specs.declared.check.CheckError.TheVariants.{Fault as CheckFault, Memory as CheckMemory}
 use Rattle.gsub.specs.Tables.{gsub_faults, lookup_count}
 use Rattle.layout.specs.Faults.{first_in}
 use Rattle.layout.specs.declared.fault.Report.{Report}
@@ -51,10 +49,6 @@ one_metric = replicate 4 0
 -- A fault of a table by its number, or want of memory.
 abbrev pub of_fault : TableFault → Failure
 of_fault f = Fault (table_told f).fault.number
-
-abbrev pub of_check : CheckError → Failure
-of_check (CheckFault f) = of_fault f
-of_check CheckMemory = Memory
 
 -- The tables have no fault.
 abbrev pub Accepted : (gsub cmap gdef : List ℕ) → Type 0

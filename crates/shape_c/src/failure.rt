@@ -1,8 +1,7 @@
 ghost use Rattle.std.specs.Prelude.{◌≡◌};
-ghost use Rattle.shape_c.specs.InC.{failure_number, of_check, of_fault};
+ghost use Rattle.shape_c.specs.InC.{failure_number, of_fault};
 ghost use Rattle.shape_c.specs.declared.failure.Failure.TheVariants.{Memory, Refused};
 
-use gsub::check::CheckError;
 use layout::fault::TableFault;
 use shaping::refusal::Refusal;
 use std::alloc::AllocError;
@@ -20,17 +19,6 @@ impl From<TableFault> for Failure {
 
     fn from(fault: TableFault) -> Failure {
         Failure::Fault(fault.told().fault.number)
-    }
-}
-
-impl From<CheckError> for Failure {
-    ghost from_gives = { λ e r. r ≡ of_check e };
-
-    fn from(error: CheckError) -> Failure {
-        match error {
-            CheckError::Fault(fault) => Failure::from(fault),
-            CheckError::Memory => Failure::Memory,
-        }
     }
 }
 

@@ -1,4 +1,5 @@
 pub mod Accepted
+pub mod Examples
 pub mod Groups
 pub mod Parts
 pub mod Sets

@@ -7,3 +7,4 @@ pub mod gdef;
 pub mod hmtx;
 pub mod source;
 pub mod table;
+pub mod worked;
