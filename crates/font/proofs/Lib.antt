@@ -1,2 +1,2 @@
-mod Finds
+pub mod Finds
 mod Tables

@@ -1,6 +1,5 @@
 ghost use Rattle.std.specs.Prelude.{◌≡◌, ◌≤◌, [], ◌∷◌, ◌++◌, length, if◌then◌else◌, nat_lt};
 ghost use Rattle.font.specs.Told.{gave, refused, told};
-ghost use Rattle.font.specs.StandIn.{pairs_of};
 
 use crate::refusal::Refusal;
 use crate::table::{Blank, Table};
@@ -25,9 +24,12 @@ impl Blank for Pair {
 #[derive(Drop)]
 pub struct PairTable {
     pairs: Table<Pair, 32>,
+    ghost few: { length pairs ≤ 32 },
 }
 
 impl PairTable {
+    ghost use Rattle.font.specs.StandIn.{pairs_of};
+
     pub fn new() -> PairTable
         ensures { pairs_of result ≡ [] }
     {

@@ -1,11 +1,17 @@
 ghost use Rattle.std.specs.Prelude.{◌≡◌, Bool};
-ghost use Rattle.std.specs.Fn.{FnReturnsAt};
 ghost use Rattle.font.specs.Search.{first_that};
 
+// A test of one element. A closure might ask something of its caller; this asks nothing.
+pub trait Test<T> {
+    ghost passes: { Self → T → Bool };
+
+    fn test(&self, x: &T) -> bool
+        ensures { result ≡ passes self.now x.now };
+}
+
 // The first element that passes.
-pub fn first_that<T: Copy, F: Fn(&T) -> bool>(items: &[T], passes: F) -> Option<T>
-    requires { F.IsAlwaysCallable passes }
-    ensures { (test : T → Bool) → ((x : T) (answer : Bool) → FnReturnsAt F.Fn passes x answer → answer ≡ test x) → result ≡ first_that test items.now }
+pub fn first_that<T: Copy, Q: Test<T>>(items: &[T], q: &Q) -> Option<T>
+    ensures { result ≡ first_that (Q.Test.passes q.now) items.now }
 {
-    items.iter().copied().find(passes)
+    items.iter().find(|x| q.test(x)).copied()
 }

@@ -3,7 +3,6 @@ ghost use Rattle.font.specs.StandIn.{pairs_of, stand_in_font};
 
 use crate::glyph_class::GlyphClass;
 use crate::pairs::PairTable;
-use crate::search::first_that;
 use crate::source::{FontSource, MeasuredSource};
 
 // A source with characters that stand in for those that it lacks. It holds any source, another layer too.
@@ -21,10 +20,12 @@ impl<S: FontSource> FontSource for StandIn<S> {
         if own != 0 {
             return own;
         }
-        match first_that(self.table.pairs(), |pair| pair.character == character) {
-            Some(pair) => self.below.glyph(pair.stand_in),
-            None => 0,
-        }
+        let first = self
+            .table
+            .pairs()
+            .iter()
+            .find(|pair| pair.character == character);
+        first.map_or(0, |pair| self.below.glyph(pair.stand_in))
     }
 
     fn class(&self, glyph: u16) -> Option<GlyphClass> {

@@ -3,7 +3,6 @@ ghost use Rattle.label_font.specs.LabelFont.{rows_of, row_of_character, row_of_g
 
 use crate::table::{LabelFont, LabelRow};
 use font::glyph_class::GlyphClass;
-use font::search::first_that;
 use font::source::{FontSource, MeasuredSource};
 use font::table::Blank;
 
@@ -11,14 +10,16 @@ impl LabelFont {
     fn row_of_character(&self, character: u32) -> LabelRow
         ensures { result ≡ row_of_character (rows_of self.now) character }
     {
-        first_that(self.rows(), |row| row.character == character).unwrap_or(LabelRow::BLANK)
+        let first = self.rows().iter().find(|row| row.character == character);
+        first.copied().unwrap_or(LabelRow::BLANK)
     }
 
     // At most one row has the glyph, since glyphs rise.
     fn row_of_glyph(&self, glyph: u16) -> LabelRow
         ensures { result ≡ row_of_glyph (rows_of self.now) glyph }
     {
-        first_that(self.rows(), |row| row.glyph == glyph).unwrap_or(LabelRow::BLANK)
+        let only = self.rows().iter().find(|row| row.glyph == glyph);
+        only.copied().unwrap_or(LabelRow::BLANK)
     }
 }
 

@@ -1,5 +1,4 @@
 ghost use Rattle.std.specs.Prelude.{◌≡◌, ◌≤◌, [], length};
-ghost use Rattle.label_font.specs.LabelFont.{no_row, rows_of};
 
 use font::glyph_class::GlyphClass;
 use font::table::{Blank, Table};
@@ -16,6 +15,8 @@ pub struct LabelRow {
 
 // What is not listed has these values.
 impl Blank for LabelRow {
+    ghost use Rattle.label_font.specs.LabelFont.{no_row};
+
     ghost BLANK = { no_row };
 
     const BLANK: LabelRow = LabelRow {
@@ -31,9 +32,12 @@ impl Blank for LabelRow {
 #[derive(Drop)]
 pub struct LabelFont {
     pub(crate) rows: Table<LabelRow, 256>,
+    ghost few: { length rows ≤ 256 },
 }
 
 impl LabelFont {
+    ghost use Rattle.label_font.specs.LabelFont.{rows_of};
+
     // A font with no rows.
     pub fn new() -> LabelFont
         ensures { rows_of result ≡ [] }
