@@ -8,6 +8,30 @@ use Rattle.layout.specs.Faults.{first_in, unless}
 use Rattle.layout.specs.Ranges.{field_size, entry_size, range_at, ranges_from, entry_faults, order_faults, third_faults, Rises}
 use Rattle.layout.proofs.Firsts.{first-behind, first-before, none-parts, unless-none}
 
+left-more : (n k : ℕ) → k < n → n - k ≡ suc (n - (k + 1))
+left-more n k h = omega arith
+
+pub ranges_more : (kind : Kind) (t : List ℕ) (i k n : ℕ) → k < n → ranges_from kind t i k (n - k) ≡ range_at kind t i k ∷ ranges_from kind t (i + entry_size kind) (k + 1) (n - (k + 1))
+ranges_more kind t i k n h = ap (ranges_from kind t i k) (left-more n k h)
+
+module _ (third : Third) (kind : Kind) (t : List ℕ) (s i low before k n : ℕ) (h : k < n) (r : Range) (is : r ≡ range_at kind t i k) where
+  order-at : first_in (order_faults third kind s i low before (ranges_from kind t i k (n - k)))
+      ≡ first_in (entry_faults third kind s i low before r ++ order_faults third kind s (i + entry_size kind) (r.last + 1) (before + (r.last - r.first + 1)) (ranges_from kind t (i + entry_size kind) (k + 1) (n - (k + 1))))
+  order-at = ap (λ rs. first_in (order_faults third kind s i low before rs)) (ranges_more kind t i k n h ∙ ap (λ u. u ∷ ranges_from kind t (i + entry_size kind) (k + 1) (n - (k + 1))) (sym is))
+
+  -- an entry without faults: on to the next
+  pub order-on : (next : ℕ) → i + entry_size kind ≡ next → None ≡ first_in (entry_faults third kind s i low before r)
+      → first_in (order_faults third kind s i low before (ranges_from kind t i k (n - k)))
+      ≡ first_in (order_faults third kind s next (r.last + 1) (before + (r.last - r.first + 1)) (ranges_from kind t next (k + 1) (n - (k + 1))))
+  order-on next e none =
+      order-at ∙ first-behind _ _ (sym none)
+      ∙ ap (λ u. first_in (order_faults third kind s u (r.last + 1) (before + (r.last - r.first + 1)) (ranges_from kind t u (k + 1) (n - (k + 1))))) e
+
+  -- an entry with a fault: it is the first
+  pub order-stops : (f : Fault) → Some f ≡ first_in (entry_faults third kind s i low before r)
+      → first_in (order_faults third kind s i low before (ranges_from kind t i k (n - k))) ≡ Some f
+  order-stops f e = order-at ∙ first-before _ _ f (sym e)
+
 -- entry j of the n entries from byte i on, the first of which has number k
 pub entry_at : (kind : Kind) (t : List ℕ) (i k n j : ℕ) (d : Range) → j < n → get_or (ranges_from kind t i k n) j d ≡ range_at kind t (i + entry_size kind * j) (k + j)
 entry_at kind t i k zero j d h = absurd (omega arith)
@@ -20,36 +44,6 @@ entry_at kind t i k (suc n) (suc j) d h =
     let p : (i + entry_size kind) + entry_size kind * j ≡ i + entry_size kind * suc j = omega arith in
     let q : (k + 1) + j ≡ k + suc j = omega arith in
     entry_at kind t (i + entry_size kind) (k + 1) n j d (omega arith) ∙ cc
-
-module _ (third : Third) (kind : Kind) (t : List ℕ) (s i low before k n : ℕ) (h : k < n) (r : Range) (is : r ≡ get_or (ranges_from kind t i 0 n) k r) where
-  abbrev here : ℕ
-  here = i + entry_size kind * k
-
-  left : ranges_from kind t here k (n - k) ≡ r ∷ ranges_from kind t (here + entry_size kind) (k + 1) (n - (k + 1))
-  left =
-      let more : n - k ≡ suc (n - (k + 1)) = omega arith in
-      let z : 0 + k ≡ k = omega arith in
-      ap (ranges_from kind t here k) more
-      ∙ ap (λ u. u ∷ ranges_from kind t (here + entry_size kind) (k + 1) (n - (k + 1))) (sym (is ∙ entry_at kind t i 0 n k r h ∙ ap (range_at kind t here) z))
-
-  order-at : first_in (order_faults third kind s here low before (ranges_from kind t here k (n - k)))
-      ≡ first_in (entry_faults third kind s here low before r ++ order_faults third kind s (here + entry_size kind) (r.last + 1) (before + (r.last - r.first + 1)) (ranges_from kind t (here + entry_size kind) (k + 1) (n - (k + 1))))
-  order-at = ap (λ rs. first_in (order_faults third kind s here low before rs)) left
-
-  -- an entry without faults: on to the next
-  pub order-on : None ≡ first_in (entry_faults third kind s (i + entry_size kind * k) low before r)
-      → first_in (order_faults third kind s (i + entry_size kind * k) low before (ranges_from kind t (i + entry_size kind * k) k (n - k)))
-      ≡ first_in (order_faults third kind s (i + entry_size kind * (k + 1)) (r.last + 1) (before + (r.last - r.first + 1)) (ranges_from kind t (i + entry_size kind * (k + 1)) (k + 1) (n - (k + 1))))
-  order-on none =
-      let m = mul-suc (entry_size kind) k in
-      let next : here + entry_size kind ≡ i + entry_size kind * (k + 1) = omega arith in
-      order-at ∙ first-behind _ _ (sym none)
-      ∙ ap (λ u. first_in (order_faults third kind s u (r.last + 1) (before + (r.last - r.first + 1)) (ranges_from kind t u (k + 1) (n - (k + 1))))) next
-
-  -- an entry with a fault: it is the first
-  pub order-stops : (f : Fault) → Some f ≡ first_in (entry_faults third kind s (i + entry_size kind * k) low before r)
-      → first_in (order_faults third kind s (i + entry_size kind * k) low before (ranges_from kind t (i + entry_size kind * k) k (n - k))) ≡ Some f
-  order-stops f e = order-at ∙ first-before _ _ f (sym e)
 
 pub length-ranges : (kind : Kind) (t : List ℕ) (i k n : ℕ) → length (ranges_from kind t i k n) ≡ n
 length-ranges kind t i k zero = refl

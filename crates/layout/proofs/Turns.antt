@@ -18,20 +18,20 @@ module _ {X : Type 0} (each : ℕ → ℕ → List X) (w : ℕ) where
       let b : i + w * 0 ≡ i = omega arith in
       cc
 
-  on-from : (j i k : ℕ) → None ≡ first_in (in_turn each w j i k) → None ≡ first_in (each (j + k) (i + w * k)) → None ≡ first_in (in_turn each w j i (suc k))
+  pub on-from : (j i k : ℕ) → None ≡ first_in (in_turn each w j i k) → None ≡ first_in (each (j + k) (i + w * k)) → None ≡ first_in (in_turn each w j i (suc k))
   on-from j i zero before none = none-join (each j i) _ (none ∙ ap first_in (first j i)) before
   on-from j i (suc k) before none =
       let p = none-parts (each j i) (in_turn each w (j + 1) (i + w) k) (sym before) in
       none-join (each j i) _ (sym p.0) (on-from (j + 1) (i + w) k (sym p.1) (none ∙ ap first_in (sym (here j i k))))
 
-  stops-from : (j i k n : ℕ) (x : X) → k < n → None ≡ first_in (in_turn each w j i k) → Some x ≡ first_in (each (j + k) (i + w * k)) → Some x ≡ first_in (in_turn each w j i n)
+  pub stops-from : (j i k n : ℕ) (x : X) → k < n → None ≡ first_in (in_turn each w j i k) → Some x ≡ first_in (each (j + k) (i + w * k)) → Some x ≡ first_in (in_turn each w j i n)
   stops-from j i k zero x h before some = absurd (omega arith)
   stops-from j i zero (suc n) x h before some = sym (first-before (each j i) _ x (sym (some ∙ ap first_in (first j i))))
   stops-from j i (suc k) (suc n) x h before some =
       let p = none-parts (each j i) (in_turn each w (j + 1) (i + w) k) (sym before) in
       stops-from (j + 1) (i + w) k n x (omega arith) (sym p.1) (some ∙ ap first_in (sym (here j i k))) ∙ sym (first-behind (each j i) _ p.0)
 
-  nth-from : (j i n k : ℕ) → k < n → first_in (in_turn each w j i n) ≡ None → first_in (each (j + k) (i + w * k)) ≡ None
+  pub nth-from : (j i n k : ℕ) → k < n → first_in (in_turn each w j i n) ≡ None → first_in (each (j + k) (i + w * k)) ≡ None
   nth-from j i zero k h e = absurd (omega arith)
   nth-from j i (suc n) zero h e = ap first_in (first j i) ∙ (none-parts (each j i) (in_turn each w (j + 1) (i + w) n) e).0
   nth-from j i (suc n) (suc k) h e =

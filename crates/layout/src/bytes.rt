@@ -65,7 +65,7 @@ impl Field for u16 {
         if at >= table.len() {
             return 0;
         }
-        u16::from_be_bytes([byte_at(table, at), byte_at(table, at + 1)])
+        u16::from(byte_at(table, at)) * 256 + u16::from(byte_at(table, at + 1))
     }
 }
 

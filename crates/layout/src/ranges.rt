@@ -141,19 +141,24 @@ impl<'a> RangeArray<'a> {
 }
 
 impl Laid<'_> {
+    // The entry at a byte, with its number.
+    fn entry_at(&self, at: usize, k: u32) -> Range
+        requires { at + entry_size self.now.array.kind
+            ≤ length self.now.array.structure.table.now }
+        ensures range { result
+            ≡ range_at self.now.array.kind self.now.array.structure.table.now at k }
+        ensures bound { result.value < value_bound self.now.array.kind }
+    {
+        self.array.kind.range(self.array.structure.table, at, k)
+    }
+
     // Entry number k.
     fn entry(&self, k: u32) -> Range
         requires { k < self.now.array.count }
         ensures range { result ≡ slice_index_or (ranges_of self.now.array) k result }
         ensures bound { result.value < value_bound self.now.array.kind }
     {
-        let RangeArray {
-            structure,
-            kind,
-            at,
-            count: _,
-        } = self.array;
-        kind.range(structure.table, at + kind.offset(k), k)
+        self.entry_at(self.array.at + self.array.kind.offset(k), k)
     }
 
     // The last entry, if there is one.
@@ -168,12 +173,14 @@ impl Laid<'_> {
     fn check_order(&self, third: Third) -> Result<(), StructureFault>
         ensures { verdict result ≡ first_in (order_faults third self.now.array.kind self.now.array.structure.start self.now.array.at 0 0 (ranges_of self.now.array)) }
     {
+        let size = self.array.kind.offset(1);
+        let mut at = self.array.at;
         let mut low = 0;
         let mut before = 0;
         for k in 0..self.array.count {
-            let range = self.entry(k);
-            let at = self.array.at + self.array.kind.offset(k);
+            let range = self.entry_at(at, k);
             self.check_entry(third, at, low, before, range)?;
+            at += size;
             low = u64::from(range.last) + 1;
             before += u64::from(range.last - range.first) + 1;
         }

@@ -44,7 +44,7 @@ followed-none (b ∷ t) e =
 abbrev pub NoClassFault : (t : List ℕ) (offset : ℕ) → Type 0
 NoClassFault t offset = first_in (if_there offset 0 (class_faults t)) ≡ None
 
-parts-none : (t : List ℕ) → first_in (gdef_faults t) ≡ None → NoClassFault t (u16_at t 4) × NoClassFault t (u16_at t 10) × (first_in (if_there (mark_sets_offset t) 0 (mark_sets_faults t)) ≡ None)
+pub parts-none : (t : List ℕ) → first_in (gdef_faults t) ≡ None → NoClassFault t (u16_at t 4) × NoClassFault t (u16_at t 10) × (first_in (if_there (mark_sets_offset t) 0 (mark_sets_faults t)) ≡ None)
 parts-none t e =
     let a = none-parts (if_there (u16_at t 4) 0 (class_faults t)) _ (followed-none t e) in
     let b = none-parts (if_there (u16_at t 10) 0 (class_faults t)) _ a.1 in

@@ -7,7 +7,6 @@ use Rattle.layout.proofs.array.Laid.check_order.Given as goal
 abbrev pub invariant-loop-k : goal.invariant-loop-k
 invariant-loop-k l =
     let array = l.self.array in
-    let at = array.at + entry_size array.kind * l.k in
-    (l.before ≤ l.low) × (l.low ≤ 2 ^ 32)
-    × (first_in (order_faults l.third array.kind array.structure.start at l.low l.before (ranges_from array.kind array.structure.table.now at l.k (array.count - l.k)))
+    (l.at ≡ array.at + entry_size array.kind * l.k) × (l.before ≤ l.low) × (l.low ≤ 2 ^ 32)
+    × (first_in (order_faults l.third array.kind array.structure.start l.at l.low l.before (ranges_from array.kind array.structure.table.now l.at l.k (array.count - l.k)))
     ≡ first_in (order_faults l.third array.kind array.structure.start array.at 0 0 (ranges_of array)))
