@@ -7,7 +7,7 @@ use Rattle.std.proofs.lemmas.Bool.Decides.{nat_tests}
 use Rattle.std.proofs.lemmas.Nat.{and_or_apart, pow_apart}
 use Rattle.layout.specs.Faults.{first_in}
 use Rattle.gsub.specs.declared.seen.Kind.{Kind}
-use Rattle.gsub.specs.declared.seen.Kind.TheVariants.{Coverage, Classes, LigatureSet, RuleSet, ChainRuleSet, Multiple, Alternate, Ligature, GlyphRules, ChainGlyphRules, ClassRules, ChainClassRules, CoverageRule, ChainCoverageRule, Reverse, Lookup}
+use Rattle.gsub.specs.declared.seen.Kind.TheVariants.{Coverage, Classes, LigatureSet, RuleSet, ChainRuleSet, Single, Multiple, Alternate, Ligature, Context, Chain, Reverse, Lookup}
 use Rattle.gsub.specs.Seen.{NothingSeen, faults_of, index, remembered, Sound}
 
 pub sound-at : (t : List ℕ) (n : ℕ) (seen : List ℕ) (kind : Kind) (s : ℕ) → Sound t n seen → remembered seen kind s ≡ true → first_in (faults_of kind t n s) ≡ None
@@ -17,7 +17,7 @@ sound-at t n seen kind s sound e = sound kind s e
 -- the kind that a bit stands for
 abbrev kind_at : ℕ → Kind
 kind_at n =
-    cond (eqb n 0) Coverage (cond (eqb n 1) Classes (cond (eqb n 2) LigatureSet (cond (eqb n 3) RuleSet (cond (eqb n 4) ChainRuleSet (cond (eqb n 5) Multiple (cond (eqb n 6) Alternate (cond (eqb n 7) Ligature (cond (eqb n 8) GlyphRules (cond (eqb n 9) ChainGlyphRules (cond (eqb n 10) ClassRules (cond (eqb n 11) ChainClassRules (cond (eqb n 12) CoverageRule (cond (eqb n 13) ChainCoverageRule (cond (eqb n 14) Reverse Lookup))))))))))))))
+    cond (eqb n 0) Coverage (cond (eqb n 1) Classes (cond (eqb n 2) LigatureSet (cond (eqb n 3) RuleSet (cond (eqb n 4) ChainRuleSet (cond (eqb n 5) Single (cond (eqb n 6) Multiple (cond (eqb n 7) Alternate (cond (eqb n 8) Ligature (cond (eqb n 9) Context (cond (eqb n 10) Chain (cond (eqb n 11) Reverse Lookup)))))))))))
 
 kind-of-index : (k : Kind) → kind_at (index k) ≡ k
 kind-of-index Coverage = refl
@@ -25,15 +25,12 @@ kind-of-index Classes = refl
 kind-of-index LigatureSet = refl
 kind-of-index RuleSet = refl
 kind-of-index ChainRuleSet = refl
+kind-of-index Single = refl
 kind-of-index Multiple = refl
 kind-of-index Alternate = refl
 kind-of-index Ligature = refl
-kind-of-index GlyphRules = refl
-kind-of-index ChainGlyphRules = refl
-kind-of-index ClassRules = refl
-kind-of-index ChainClassRules = refl
-kind-of-index CoverageRule = refl
-kind-of-index ChainCoverageRule = refl
+kind-of-index Context = refl
+kind-of-index Chain = refl
 kind-of-index Reverse = refl
 kind-of-index Lookup = refl
 

@@ -34,6 +34,18 @@ form_of ty f =
     (cond (ty == 6 && f == 3) (Some (coverage_rule true))
     (cond (ty == 8 && f == 1) (Some reverse) None)))))))))))
 
+-- The type whose subtables have a form.
+abbrev pub type_of : Form → ℕ
+type_of delta = 1
+type_of single = 1
+type_of multiple = 2
+type_of alternate = 3
+type_of ligature = 4
+type_of (glyph_rules chain) = cond chain 6 5
+type_of (class_rules chain) = cond chain 6 5
+type_of (coverage_rule chain) = cond chain 6 5
+type_of reverse = 8
+
 -- The form of a subtable in the code.
 abbrev pub form_is : Subtable → Form
 form_is (Delta part) = delta

@@ -5,13 +5,12 @@ use Rattle.layout.specs.Coverages.{coverage_faults}
 use Rattle.layout.specs.declared.fault.Fault.{Fault}
 use Rattle.layout.specs.Faults.{first_in}
 use Rattle.gsub.specs.declared.seen.Kind.{Kind}
-use Rattle.gsub.specs.declared.seen.Kind.TheVariants.{Coverage, Classes, LigatureSet, RuleSet, ChainRuleSet, Multiple, Alternate, Ligature, GlyphRules, ChainGlyphRules, ClassRules, ChainClassRules, CoverageRule, ChainCoverageRule, Reverse, Lookup}
-use Rattle.gsub.specs.Forms.{multiple, alternate, ligature, glyph_rules, class_rules, coverage_rule, reverse}
+use Rattle.gsub.specs.declared.seen.Kind.TheVariants.{Coverage, Classes, LigatureSet, RuleSet, ChainRuleSet, Single, Multiple, Alternate, Ligature, Context, Chain, Reverse, Lookup}
 use Rattle.gsub.specs.Rules.{rule_faults}
-use Rattle.gsub.specs.Subtables.{form_faults, ligature_set_faults, rule_set_faults}
+use Rattle.gsub.specs.Subtables.{subtable_faults, ligature_set_faults, rule_set_faults}
 use Rattle.gsub.specs.Tables.{bare_lookup_faults}
 
--- The faults of a structure of a kind that starts at s, of a subtable those behind its format. They
+-- The faults of a structure of a kind that starts at s, of a subtable those of its type. They
 -- depend on nothing else, so one walk is enough.
 abbrev pub faults_of : Kind → (table : List ℕ) → (lookups s : ℕ) → List Fault
 faults_of Coverage t n s = coverage_faults t s
@@ -19,16 +18,13 @@ faults_of Classes t n s = class_faults t s
 faults_of LigatureSet t n s = ligature_set_faults t s
 faults_of RuleSet t n s = rule_set_faults (rule_faults false t n) t s
 faults_of ChainRuleSet t n s = rule_set_faults (rule_faults true t n) t s
-faults_of Multiple t n s = form_faults t n s multiple
-faults_of Alternate t n s = form_faults t n s alternate
-faults_of Ligature t n s = form_faults t n s ligature
-faults_of GlyphRules t n s = form_faults t n s (glyph_rules false)
-faults_of ChainGlyphRules t n s = form_faults t n s (glyph_rules true)
-faults_of ClassRules t n s = form_faults t n s (class_rules false)
-faults_of ChainClassRules t n s = form_faults t n s (class_rules true)
-faults_of CoverageRule t n s = form_faults t n s (coverage_rule false)
-faults_of ChainCoverageRule t n s = form_faults t n s (coverage_rule true)
-faults_of Reverse t n s = form_faults t n s reverse
+faults_of Single t n s = subtable_faults t n s 1
+faults_of Multiple t n s = subtable_faults t n s 2
+faults_of Alternate t n s = subtable_faults t n s 3
+faults_of Ligature t n s = subtable_faults t n s 4
+faults_of Context t n s = subtable_faults t n s 5
+faults_of Chain t n s = subtable_faults t n s 6
+faults_of Reverse t n s = subtable_faults t n s 8
 faults_of Lookup t n s = bare_lookup_faults t n s
 
 -- A rule set's kind, by whether its rules chain.
@@ -47,17 +43,14 @@ index Classes = 1
 index LigatureSet = 2
 index RuleSet = 3
 index ChainRuleSet = 4
-index Multiple = 5
-index Alternate = 6
-index Ligature = 7
-index GlyphRules = 8
-index ChainGlyphRules = 9
-index ClassRules = 10
-index ChainClassRules = 11
-index CoverageRule = 12
-index ChainCoverageRule = 13
-index Reverse = 14
-index Lookup = 15
+index Single = 5
+index Multiple = 6
+index Alternate = 7
+index Ligature = 8
+index Context = 9
+index Chain = 10
+index Reverse = 11
+index Lookup = 12
 
 abbrev pub remembered : (seen : List ℕ) → Kind → (s : ℕ) → Bool
 remembered seen kind s = not (bit_and (slice_index seen s) (2 ^ index kind) == 0)

@@ -1,19 +1,20 @@
 // The check of a subtable, by its form.
-ghost use Rattle.std.specs.Prelude.{◌≡◌, ◌+◌, IfOk, nat_le};
+ghost use Rattle.std.specs.Prelude.{◌≡◌, ◌+◌, IfOk, None, nat_le};
 ghost use Rattle.layout.specs.Bytes.{u16_at};
-ghost use Rattle.layout.specs.Coverages.{coverage_ranges};
+ghost use Rattle.layout.specs.Coverages.{coverage_faults, coverage_ranges};
 ghost use Rattle.layout.specs.Faults.{first_in, unless};
 ghost use Rattle.layout.specs.Ranges.{size};
 ghost use Rattle.layout.specs.Told.{verdict};
 ghost use Rattle.gsub.specs.Rules.{context_coverages};
 ghost use Rattle.gsub.specs.Forms.{delta, coverage_rule, form_is};
-ghost use Rattle.gsub.specs.Subtables.{class_count, coverage_of, indexed, sets_faults, class_sets, form_faults, reverse_faults};
+ghost use Rattle.gsub.specs.Subtables.{class_count, coverage_of, indexed, sets_faults, class_sets, form_faults, reverse_faults, subtable_faults};
 
 use crate::arrays::Array;
 use crate::follow::{ListOf, Offsets, Once, Target};
 use crate::rules::{ContextRule, RulePlace, Rules};
+use crate::seen::Kind;
 use crate::structures::{Alternates, Classes, Coverages, Ligatures, Sequences};
-use crate::subtable::Subtable;
+use crate::subtable::{Decided, Subtable};
 use crate::walk::{Start, Walk};
 use layout::bytes::{Field, Width};
 use layout::coverage::Coverage;
@@ -21,14 +22,27 @@ use layout::fault::{Rule, StructureFault};
 use layout::structure::Structure;
 
 impl Walk<'_> {
-    // The coverage of the subtable at `start`. Answers how many glyphs it has.
-    fn check_coverage(&mut self, start: Start) -> Result<usize, StructureFault>
+    // The coverage of the subtable at `start`. Answers where it starts.
+    fn check_coverage(&mut self, start: Start) -> Result<Start, StructureFault>
         ensures answer { verdict result ≡ first_in (coverage_of self.old.table start.byte) }
-        ensures glyphs { IfOk result (λ n. n ≡ size (coverage_ranges self.old.table (start.byte + u16_at self.old.table (start.byte + 2)))) }
+        ensures target { IfOk result
+            (λ target. target.byte ≡ start.byte + u16_at self.old.table (start.byte + 2)) }
+        ensures accepted { IfOk result
+            (λ target. first_in (coverage_faults self.old.table target.byte) ≡ None) }
         ensures same { self.new ≡ self.old }
     {
         let target = self.follow(start, start.byte + 2)?;
         Once(Coverages).check(self, target)?;
+        Ok(target)
+    }
+
+    // The same. Answers how many glyphs it has, for an array that has an entry for each.
+    fn check_counted_coverage(&mut self, start: Start) -> Result<usize, StructureFault>
+        ensures answer { verdict result ≡ first_in (coverage_of self.old.table start.byte) }
+        ensures glyphs { IfOk result (λ n. n ≡ size (coverage_ranges self.old.table (start.byte + u16_at self.old.table (start.byte + 2)))) }
+        ensures same { self.new ≡ self.old }
+    {
+        let target = self.check_coverage(start)?;
         let structure = self.structure(target);
         Ok(Coverage { structure }.glyph_count())
     }
@@ -42,7 +56,7 @@ impl Walk<'_> {
         subtable.check_fields(start.byte + 2, Width::Two, 2)?;
         let count = subtable.u16_in(4);
         subtable.check_fields(start.byte + 6, Width::Two, u64::from(count))?;
-        let glyphs = self.check_coverage(start)?;
+        let glyphs = self.check_counted_coverage(start)?;
         check_enough(subtable, glyphs, start.byte + 4)
     }
 
@@ -122,7 +136,7 @@ impl Walk<'_> {
     {
         let subtable = self.structure(start);
         let rule = self.reverse_rule(start)?;
-        let glyphs = self.check_coverage(start)?;
+        let glyphs = self.check_counted_coverage(start)?;
         check_enough(subtable, glyphs, rule.arrays.lookahead.past())?;
         self.check_context(rule)
     }
@@ -138,7 +152,11 @@ impl Walk<'_> {
     }
 
     // What stands behind the format of a subtable, by its form.
-    fn check_form(&mut self, subtable: Subtable<'_>, start: Start) -> Result<(), StructureFault>
+    pub(crate) fn check_form(
+        &mut self,
+        subtable: Subtable<'_>,
+        start: Start,
+    ) -> Result<(), StructureFault>
         ensures answer { verdict result ≡ first_in (form_faults self.old.table self.old.lookups start.byte (form_is subtable.entry)) }
         ensures same { self.new ≡ self.old }
     {
@@ -161,29 +179,46 @@ impl Walk<'_> {
         }
     }
 
-    // The same, walked once.
-    pub(crate) fn check_own(
+    // A subtable of a type that does not move, walked once.
+    pub(crate) fn check_subtable(
         &mut self,
-        subtable: Subtable<'_>,
+        lookup_type: u16,
         start: Start,
     ) -> Result<(), StructureFault>
         ensures answer { verdict result ≡ first_in
-            (form_faults self.old.table self.old.lookups start.byte (form_is subtable.entry)) }
+            (subtable_faults self.old.table self.old.lookups start.byte lookup_type) }
         ensures same { self.new ≡ self.old }
     {
-        match subtable.kind() {
-            Some(kind) => self.check_once(&subtable, kind, start),
-            None => self.check_form(subtable, start),
+        let own = OfType { lookup_type };
+        match Kind::of_type(lookup_type) {
+            Some(kind) => self.check_once(&own, kind, start),
+            None => own.check(self, start),
         }
     }
 }
 
-impl Target for Subtable<'_> {
-    ghost faults = { λ subtable walked s.
-        form_faults walked.table walked.lookups s (form_is subtable) };
+// The subtables of a type that does not move.
+#[derive(Clone, Copy, Drop)]
+pub(crate) struct OfType {
+    pub(crate) lookup_type: u16,
+}
+
+impl Target for OfType {
+    ghost faults = { λ own walked s.
+        subtable_faults walked.table walked.lookups s own.lookup_type };
 
     fn check(&self, walk: &mut Walk<'_>, start: Start) -> Result<(), StructureFault> {
-        walk.check_form(*self, start)
+        let structure = walk.structure(start);
+        let format = structure.field::<u16>(start.byte)?;
+        match Decided::of(
+            self.lookup_type,
+            format,
+            true,
+            &structure.table[start.byte..],
+        ) {
+            Some(Decided::Own(subtable)) => walk.check_form(subtable, start),
+            _ => Err(structure.broken(Rule::Unknown, start.byte)),
+        }
     }
 }
 

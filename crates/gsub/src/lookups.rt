@@ -5,6 +5,7 @@ ghost use Rattle.layout.specs.Told.{verdict, placed_verdict};
 ghost use Rattle.gsub.specs.Subtables.{subtable_faults};
 ghost use Rattle.gsub.specs.Tables.{extended_faults, extension_rest, has_mark_set, in_lookup, lookup_fields, lookup_subtable, moved_type, subtable_faults_at, lookup_faults, lookup_faults_at, header_faults, lookup_list_faults};
 
+use crate::forms::OfType;
 use crate::seen::Kind;
 use crate::subtable::{Decided, is_known, is_movable};
 use crate::walk::{Start, Walk};
@@ -76,20 +77,6 @@ impl NumberedLookup {
 }
 
 impl Walk<'_> {
-    // A subtable that an extension moves, of a type.
-    fn check_moved(&mut self, moved: u16, start: Start) -> Result<(), StructureFault>
-        ensures answer { verdict result
-            ≡ first_in (subtable_faults self.old.table self.old.lookups start.byte moved) }
-        ensures same { self.new ≡ self.old }
-    {
-        let structure = self.structure(start);
-        let format = structure.field::<u16>(start.byte)?;
-        match Decided::of(moved, format, true, &structure.table[start.byte..]) {
-            Some(Decided::Own(subtable)) => self.check_own(subtable, start),
-            _ => Err(structure.broken(Rule::Unknown, start.byte)),
-        }
-    }
-
     // An extension, behind its format, in a lookup that moves a type.
     fn check_extension(&mut self, moved: u16, start: Start) -> Result<(), StructureFault>
         requires { start.byte + 2 ≤ length self.old.table }
@@ -100,7 +87,7 @@ impl Walk<'_> {
         let offset = extension_offset(moved, self.structure(start))?;
         // From 32 bits to `usize` there is no `From`.
         let byte = start.byte + offset as usize;
-        self.check_moved(moved, Start { byte })
+        self.check_subtable(moved, Start { byte })
     }
 
     // A subtable of the lookup at `lookup`.
@@ -114,6 +101,23 @@ impl Walk<'_> {
     {
         let lookup = self.structure(lookup);
         let lookup_type = u16::read(lookup.table, lookup.start);
+        match Kind::of_type(lookup_type) {
+            Some(kind) => self.check_once(&OfType { lookup_type }, kind, subtable),
+            None => self.check_by_format(lookup, subtable),
+        }
+    }
+
+    // The same of a type whose subtables are not remembered: 7, which moves, or none that there is.
+    fn check_by_format(
+        &mut self,
+        lookup: Structure<'_>,
+        subtable: Start,
+    ) -> Result<(), StructureFault>
+        requires { lookup.table.now ≡ self.old.table }
+        ensures answer { verdict result ≡ first_in (lookup_subtable self.old.table self.old.lookups lookup.entry.start subtable.byte) }
+        ensures same { self.new ≡ self.old }
+    {
+        let lookup_type = u16::read(lookup.table, lookup.start);
         let structure = self.structure(subtable);
         let format = structure.field::<u16>(subtable.byte)?;
         match Decided::of(
@@ -122,7 +126,7 @@ impl Walk<'_> {
             false,
             &structure.table[subtable.byte..],
         ) {
-            Some(Decided::Own(own)) => self.check_own(own, subtable),
+            Some(Decided::Own(own)) => self.check_form(own, subtable),
             Some(Decided::Extension) => self.check_extension(moved_type(lookup), subtable),
             None => Err(structure.broken(Rule::Unknown, subtable.byte)),
         }

@@ -1,9 +1,10 @@
-ghost use Rattle.std.specs.Prelude.{◌≡◌, ℕ, ◌^◌, List, IfSome};
-ghost use Rattle.gsub.specs.Forms.{form_is};
+ghost use Rattle.std.specs.Prelude.{◌≡◌, ℕ, ◌^◌, List, IfSome, is_some};
+ghost use Rattle.gsub.specs.Forms.{form_is, type_of};
 ghost use Rattle.gsub.specs.Seen.{faults_of, index};
-ghost use Rattle.gsub.specs.Subtables.{form_faults};
+ghost use Rattle.gsub.specs.Subtables.{subtable_faults};
+ghost use Rattle.gsub.specs.Tables.{movable};
 
-use crate::subtable::Subtable;
+use crate::subtable::{Decided, Subtable};
 
 // The kinds of structures that the walk remembers: those that cost more to walk than to look up.
 #[derive(Clone, Copy)]
@@ -13,20 +14,30 @@ pub(crate) enum Kind {
     LigatureSet,
     RuleSet,
     ChainRuleSet,
+    Single,
     Multiple,
     Alternate,
     Ligature,
-    GlyphRules,
-    ChainGlyphRules,
-    ClassRules,
-    ChainClassRules,
-    CoverageRule,
-    ChainCoverageRule,
+    Context,
+    Chain,
     Reverse,
     Lookup,
 }
 
 impl Kind {
+    // The kind of a type's own subtables; none of a type that only moves, or that there is not.
+    // A subtable begins with its format, so that kinds go by the type alone.
+    pub(crate) fn of_type(lookup_type: u16) -> Option<Kind>
+        ensures movable { is_some result ≡ movable lookup_type }
+        ensures faults { (t : List ℕ) (n s : ℕ) → IfSome result
+            (λ kind. faults_of kind t n s ≡ subtable_faults t n s lookup_type) }
+    {
+        match Decided::of(lookup_type, 1, true, &[]) {
+            Some(Decided::Own(subtable)) => Some(subtable.kind()),
+            _ => None,
+        }
+    }
+
     // A bit of its own.
     pub(crate) fn bit(self) -> u16
         ensures { result ≡ 2 ^ index self }
@@ -36,32 +47,22 @@ impl Kind {
 }
 
 impl Subtable<'_> {
-    // Its kind, by its form; none where it leads to no more than a coverage.
-    pub(crate) fn kind(self) -> Option<Kind>
-        ensures { (t : List ℕ) (n s : ℕ) → IfSome result
-            (λ kind. faults_of kind t n s ≡ form_faults t n s (form_is self.entry)) }
+    // Its kind, by its form's type.
+    fn kind(self) -> Kind
+        ensures { (t : List ℕ) (n s : ℕ)
+            → faults_of result t n s ≡ subtable_faults t n s (type_of (form_is self.entry)) }
     {
         match self {
-            Subtable::Delta { part: _ } | Subtable::Single { part: _ } => None,
-            Subtable::Multiple { part: _ } => Some(Kind::Multiple),
-            Subtable::Alternate { part: _ } => Some(Kind::Alternate),
-            Subtable::Ligature { part: _ } => Some(Kind::Ligature),
-            Subtable::GlyphRules { chain, part: _ } => Some(if chain {
-                Kind::ChainGlyphRules
-            } else {
-                Kind::GlyphRules
-            }),
-            Subtable::ClassRules { chain, part: _ } => Some(if chain {
-                Kind::ChainClassRules
-            } else {
-                Kind::ClassRules
-            }),
-            Subtable::CoverageRule { chain, part: _ } => Some(if chain {
-                Kind::ChainCoverageRule
-            } else {
-                Kind::CoverageRule
-            }),
-            Subtable::Reverse { part: _ } => Some(Kind::Reverse),
+            Subtable::Delta { part: _ } | Subtable::Single { part: _ } => Kind::Single,
+            Subtable::Multiple { part: _ } => Kind::Multiple,
+            Subtable::Alternate { part: _ } => Kind::Alternate,
+            Subtable::Ligature { part: _ } => Kind::Ligature,
+            Subtable::GlyphRules { chain, part: _ }
+            | Subtable::ClassRules { chain, part: _ }
+            | Subtable::CoverageRule { chain, part: _ } => {
+                if chain { Kind::Chain } else { Kind::Context }
+            }
+            Subtable::Reverse { part: _ } => Kind::Reverse,
         }
     }
 }

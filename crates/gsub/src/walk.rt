@@ -181,8 +181,8 @@ mod tests {
         push(&mut table, &[1, 6, 1, 1, 1, 5])?;
         let mut walk = Walk::new(Vec::new(rt.alloc()), table.as_slice(), 3);
         assert!(rt; walk.check_lookups(Start { byte: 10 }).is_ok());
-        // The lookup and the coverage, three times.
-        assert_eq!(rt; walk.walked, 6);
+        // The lookup, its subtable and the coverage, three times.
+        assert_eq!(rt; walk.walked, 9);
         Ok(())
     }
 }

@@ -29,14 +29,14 @@ fn bytes_of(heap: Global, words: &str, length: usize) -> Result<Vec<u8>, AllocEr
     Ok(bytes)
 }
 
-fn print_answer(rt: &HostRuntime, table: &[u8]) -> io::Result<()> {
+fn print_answer(rt: &HostRuntime, name: &str, table: &[u8]) -> io::Result<()> {
     let mut gsub = Gsub::new();
     match gsub.read(rt.alloc(), table) {
         Ok(()) => {
             let (lookups, subtables) = (gsub.lookup_count(), gsub.subtables());
-            println!(rt; ": accepted, {lookups} lookups, {subtables} subtables")
+            println!(rt; "{name}: accepted, {lookups} lookups, {subtables} subtables")
         }
-        Err(fault) => println!(rt; ": {fault}"),
+        Err(fault) => println!(rt; "{name}: {fault}"),
     }
 }
 
@@ -49,13 +49,12 @@ fn case(rt: &HostRuntime, line: &str) -> io::Result<()> {
     let bytes = bytes_of(rt.alloc(), words, most)?;
     if length == "each" {
         for length in 0..=bytes.len() {
-            print!(rt; "{name}, cut to {length}")?;
-            print_answer(rt, &bytes[..length])?;
+            let name = format!(in rt.alloc(); "{name}, cut to {length}")?;
+            print_answer(rt, name.as_str(), &bytes[..length])?;
         }
         return Ok(());
     }
-    print!(rt; "{name}")?;
-    print_answer(rt, bytes.as_slice())
+    print_answer(rt, name, bytes.as_slice())
 }
 
 fn main(rt: HostRuntime) -> io::Result<()> {
