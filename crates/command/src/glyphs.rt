@@ -11,6 +11,10 @@ pub fn glyphs<S: MeasuredSource>(
 ) -> Result<String, Failure> {
     let glyphs = glyphs_of(heap, source, text)?;
     let width = run_width(source, glyphs.as_slice())?;
-    let line = numbers_line(heap, "glyphs:", glyphs.as_slice())?;
-    Ok(format!(in heap; "{line}\nwidth: {width}\n")?)
+    let end = format!(in heap; "\nwidth: {width}\n")?;
+    let mut line = numbers_line(heap, "glyphs:", glyphs.as_slice())?;
+    // The line is long: it gets room for its end alone, and no second copy.
+    line.reserve_exact(end.len())?;
+    line.push_str(end.as_str())?;
+    Ok(line)
 }

@@ -1,5 +1,5 @@
 -- Elements that come with their index, and what is true of one more.
-use Rattle.std.proofs.Common.{◌≡◌, ℕ, ◌+◌, Bool, true, false, Option, None, Some, SomeIff, is_some, not, List, [], ◌∷◌, ◌++◌, map, refl, sym, ap, ◌∙◌}
+use Rattle.std.proofs.Common.{◌≡◌, ℕ, ◌+◌, List, [], ◌∷◌, ◌++◌, map, refl, sym, ap, ◌∙◌}
 use Rattle.std.specs.List.{AllByRecursion, AllZip, enumerate_from}
 use Rattle.std.proofs.lemmas.Simd.{map-map}
 
@@ -19,12 +19,3 @@ one_pair_more R [] [] x y all here = (here, tt)
 one_pair_more R [] (z ∷ ys) x y all here = absurd all
 one_pair_more R (w ∷ xs) [] x y all here = absurd all
 one_pair_more R (w ∷ xs) (z ∷ ys) x y all here = (all.0, one_pair_more R xs ys x y all.1 here)
-
--- what a test by `is_none` says
-pub none_is_bad : {X P : Type 0} (r : Option X) (v : X) (none : Bool) → is_some r ≡ not none → none ≡ true → SomeIff r P v → ¬ P
-none_is_bad None v none test e said = said
-none_is_bad (Some x) v none test e said = cc
-
-pub some_is_good : {X P : Type 0} (r : Option X) (v : X) (none : Bool) → is_some r ≡ not none → none ≡ false → SomeIff r P v → P
-some_is_good None v none test e said = cc
-some_is_good (Some x) v none test e said = said.0

@@ -1,9 +1,9 @@
-ghost use Rattle.std.specs.Prelude.{◌≡◌, map, IfOk, IfErr, MatchOption, OnOk, IsUtf8, encode_utf8_all};
+ghost use Rattle.std.specs.Prelude.{◌≡◌, map, IfOk, IfErr, OnOk, IsUtf8, encode_utf8_all};
 ghost use Rattle.std.specs.List.{AllByRecursion};
 ghost use Rattle.std.specs.Str.Lines.{lines};
 ghost use Rattle.std.specs.Str.Parse.{digits_value};
 ghost use Rattle.parsing.specs.Errors.{not_utf8};
-ghost use Rattle.parsing.specs.Faults.{IsFirstBad, NotRead};
+ghost use Rattle.parsing.specs.Faults.{NotRead};
 ghost use Rattle.parsing.specs.Number.{IsNumber};
 ghost use Rattle.parsing.specs.Text.{text_in};
 
@@ -36,19 +36,7 @@ pub fn characters(heap: Global, bytes: &[u8]) -> Result<Vec<u32>, ReadError>
     Ok(text.chars().map(u32::from).collect(heap)?)
 }
 
-// The first line that is not a number.
-fn first_bad_number(text: &str) -> Option<usize>
-    ensures { MatchOption result (AllByRecursion IsNumber (lines text.now)) (λ n. IsFirstBad IsNumber (lines text.now) n) }
-{
-    for (index, line) in text.lines().enumerate() {
-        if number_of(line).is_none() {
-            return Some(index + 1);
-        }
-    }
-    None
-}
-
-// Character numbers, one a line. All lines are seen before there is memory for any.
+// Character numbers, one a line. What is wrong with a line is told before want of memory.
 pub fn numbers(heap: Global, bytes: &[u8]) -> Result<Vec<u32>, ReadError>
     ensures utf8 { OnOk result (IsUtf8 bytes.now) }
     ensures numbers { OnOk result (AllByRecursion IsNumber (lines (text_in bytes.now))) }
@@ -56,14 +44,17 @@ pub fn numbers(heap: Global, bytes: &[u8]) -> Result<Vec<u32>, ReadError>
     ensures not_read { IfErr result (λ error. NotRead IsNumber bytes.now error) }
 {
     let text = text_of(bytes)?;
-    if let Some(line) = first_bad_number(text) {
-        return Err(ReadError::Line(line));
-    }
     let mut all = Vec::new(heap);
-    for line in text.lines() {
-        if let Some(character) = number_of(line) {
-            all.push(character)?;
-        }
+    let mut full = false;
+    for (index, line) in text.lines().enumerate() {
+        let Some(character) = number_of(line) else {
+            return Err(ReadError::Line(index + 1));
+        };
+        // Where memory is wanting, the lines that are left may still be bad.
+        full = full || all.push(character).is_err();
+    }
+    if full {
+        return Err(ReadError::Memory);
     }
     Ok(all)
 }

@@ -1,7 +1,13 @@
-use Rattle.std.proofs.Common.{◌≡◌, map}
+use Rattle.std.proofs.Common.{◌≡◌, ◌<◌, false, true, length, map}
+use Rattle.std.specs.List.{AllByRecursion}
 use Rattle.std.specs.Str.Parse.{digits_value}
+use Rattle.parsing.specs.Number.{IsNumber}
 use Rattle.parsing.proofs.text.numbers.Given as goal
 
--- the numbers so far are those of the lines so far
-abbrev pub invariant-loop-line : goal.invariant-loop-line
-invariant-loop-line l = record { values : l.all.items ≡ map (digits_value 10) (map (λ x. x.now) l.yielded) }
+-- the lines so far are numbers, and while there is memory, these are kept
+abbrev pub invariant-loop-index : goal.invariant-loop-index
+invariant-loop-index l = record {
+  numbers : AllByRecursion IsNumber (map (λ x. x.1.now) l.yielded);
+  values : l.full ≡ false → l.all.items ≡ map (digits_value 10) (map (λ x. x.1.now) l.yielded);
+  some : l.full ≡ true → 0 < length l.yielded;
+}
